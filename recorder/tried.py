@@ -56,7 +56,7 @@ JUDGED = 600
 Outcome = collections.namedtuple("Outcome", "ended report failed")
 
 # What says that a program is wrong, and what says that it isn't.
-ACCUSES = re.compile(r"^fault|^a circle|^a wait (without|for)|^stalled|^by this engine's schedules every run stalls|^warning(?!: may stall|.* may stall$)", re.M)
+ACCUSES = re.compile(r"^fault|^a cycle|^a wait (without|for)|^stalled|^by this engine's schedules every run stalls|^warning(?!: may stall|.* may stall$)", re.M)
 ACQUITS = re.compile(r"no fault: |^never stalls|let no run stall", re.M)
 
 

@@ -110,7 +110,7 @@ def measure(name, folder, rounds):
     calls = re.search(r"(\d+) collective calls", judged.stdout)
     last = (judged.stdout + judged.stderr).strip().splitlines()
     print(f"| {name} | {calls[1] if calls else '?'} | {statistics.median(without):.1f}, {statistics.median(with_it):.1f} | {size} | {seconds:.1f} | {'; '.join(last[1:])} |", flush=True)
-    return judged.returncode in (0, 3) and not re.search(r"(?m)^(fault|a circle|a wait|warning)", judged.stdout)
+    return judged.returncode in (0, 3) and not re.search(r"(?m)^(fault|a cycle|a wait|warning)", judged.stdout)
 
 
 def main():

@@ -263,6 +263,8 @@ static int made_request(int result, const struct posting *posting, const MPI_Req
     if (result == MPI_SUCCESS && posting->written)
         request_made(request, posting->number, posting->persistent, posting->awaited)->gift = posting->gift;
     log_unlock();
+    if (result == MPI_SUCCESS && posting->written)
+        now_makes(posting->awaited);
     return result;
 }
 

@@ -9,7 +9,8 @@ import sys
 import join
 import text_places
 from launcher import HOME, WORDS, Impossible, Launch, recorder_for
-from output import FAILED, colljob_of, write_file, write_out
+from output import colljob_of, write_file, write_out
+from page import page_of_files, page_of_report
 from records import Unreadable
 from report import CLEAN, FAULT, OPEN, Report
 from watch import Ended, Teller, Watch, end, start
@@ -41,7 +42,7 @@ def seconds(word):
 
 
 def parser_of_run():
-    parser = argparse.ArgumentParser("wzrecord", usage="wzrecord [OPTIONS] LAUNCHER ..\n       wzrecord report [OPTIONS] FOLDER\n       wzrecord text [--from P] FOLDER", allow_abbrev=False,
+    parser = argparse.ArgumentParser("wzrecord", usage="wzrecord [OPTIONS] LAUNCHER ..\n       wzrecord report [OPTIONS] FOLDER\n       wzrecord text [--from P] FOLDER\n       wzrecord page [OPTIONS] OUT", allow_abbrev=False,
                                      description="Records an MPI program with its own library, Open MPI or MPICH, and reports what is wrong with it.",
                                      epilog=STATUSES, formatter_class=argparse.RawDescriptionHelpFormatter)
     parser.add_argument("-V", "--version", action="version", version=f"wzrecord {version()}")
@@ -59,6 +60,7 @@ def parser_of_run():
 def add_report_words(parser):
     parser.add_argument("--format", choices=["text", "json"], default="text", help="how the report is written: for a reader, or an object in each line (text)")
     parser.add_argument("--report", metavar="OUT", help="writes the report to the file OUT in place of standard error, or output for `report`")
+    parser.add_argument("--html", metavar="OUT", help="writes a page to the file OUT: what was found, who waits for whom, a timeline and tables, for any browser")
     parser.add_argument("--colljob", default=colljob_of(), metavar="PROGRAM", help="the program that explains stalls, in place of the installed one")
 
 
@@ -82,13 +84,14 @@ def version():
 # Reports
 
 
-def reports_of(folder, colljob, first=None):
+def reports_of(folder, colljob, teller, first=None):
     """The report of a folder, and those of the programs that this one started."""
-    yield first or Report(folder, colljob)
+    yield first or Report(folder, colljob, teller.progress)
+    teller.clear()
     for name in sorted(os.listdir(folder)):
         if name.startswith("started.") and os.path.isdir(os.path.join(folder, name)):
             try:
-                yield from reports_of(os.path.join(folder, name), colljob)
+                yield from reports_of(os.path.join(folder, name), colljob, teller)
             except Unreadable:
                 continue  # what was started hasn't come to MPI_Init
 
@@ -108,11 +111,42 @@ def write_reports(reports, words, to_error):
         write_out(text)
 
 
+def write_pages(reports, path):
+    """Writes the page of the first report, and beside it those of the programs that were started."""
+    if not path:
+        return
+    stem, ending = os.path.splitext(path)
+    for number, it in enumerate(reports):
+        write_file(path if not number else f"{stem}-{number}{ending}", page_of_report(it))
+
+
+def parser_of_page():
+    parser = argparse.ArgumentParser("wzrecord page", allow_abbrev=False, description="Makes a page of what wzrun or colljob wrote, for any browser.")
+    parser.add_argument("--timeline", metavar="FILE", help="what --timeline of wzrun or colljob run wrote")
+    parser.add_argument("--stats", metavar="FILE", help="what --stats of these wrote")
+    parser.add_argument("--words", metavar="FILE", help="what the program wrote to standard error")
+    parser.add_argument("--explain", metavar="FILE", help="what `colljob explain --format json` wrote")
+    parser.add_argument("--status", type=int, help="the program's status")
+    parser.add_argument("--title", default="A run", help="the page's first line")
+    parser.add_argument("out", metavar="OUT", help="the page")
+    return parser
+
+
+def make_page(arguments):
+    parser = parser_of_page()
+    words = parser.parse_args(arguments)
+    if not (words.timeline or words.stats or words.words or words.explain):
+        parser.error("there is no file of which a page is made")
+    write_file(words.out, page_of_files(words.title, words.timeline, words.stats, words.words, words.explain, words.status))
+    return CLEAN
+
+
 def report(arguments):
     words = parser_of_report().parse_args(arguments)
     if os.path.isdir(words.folder):
-        reports = list(reports_of(words.folder, words.colljob))
+        reports = list(reports_of(words.folder, words.colljob, Teller(False)))
         write_reports(reports, words, False)
+        write_pages(reports, words.html)
         return worst([it.status for it in reports])
     lines, status = text_places.tell(words.folder, words.colljob)
     write_out("".join(f"{line}\n" for line in lines))
@@ -139,6 +173,10 @@ def fresh_folder(named):
             return os.path.abspath(f"wzrecord-{number}")
         except FileExistsError:
             number += 1
+
+
+def shorter_path(path):
+    return min(os.path.relpath(path), path, key=len)
 
 
 def ended_words(status):
@@ -193,17 +231,18 @@ def record(arguments):
 
 def finish(run, folder, words, teller, why, found):
     """Writes the report of a run that is over, and gives the status."""
-    shown = os.path.relpath(folder)
+    shown = shorter_path(folder)
     if not os.listdir(folder):
         os.rmdir(folder)
         raise Impossible(f"nothing was recorded ({why or ended_words(run.returncode)}): no rank came through MPI_Init, or the program has its MPI library linked in")
-    reports = list(reports_of(shown, words.colljob, found))
+    reports = list(reports_of(shown, words.colljob, teller, found))
     status = worst([it.status for it in reports])
     is_bad = run.returncode != 0 and not why
     if why or is_bad:
         teller.tell(why or ended_words(run.returncode))
     if status or is_bad or not words.quiet or words.report:
         write_reports(reports, words, True)
+    write_pages(reports, words.html)
     return PROGRAM_FAILED if status == CLEAN and is_bad else status
 
 
@@ -211,6 +250,8 @@ def main():
     arguments = sys.argv[1:]
     if arguments[:1] == ["report"]:
         return report(arguments[1:])
+    if arguments[:1] == ["page"]:
+        return make_page(arguments[1:])
     if arguments[:1] == ["text"]:
         sys.argv[1:] = arguments[1:]
         return join.main()

@@ -4,6 +4,7 @@
 
 #include <stdio.h>
 #include <stdlib.h>
+#include <string.h>
 
 static unsigned long namings; /* how many calls have named requests */
 
@@ -18,6 +19,7 @@ static void write_start(const MPI_Request *handle) {
     it->active = true;
     if (!is_collective(it)) {
         it->awaited.index = now_count(it->awaited);
+        message_started(it);
         return;
     }
     begin_command();
@@ -107,6 +109,8 @@ static void write_wait(struct named *named, const char *word, int count, const M
         }
     if (begun)
         log_text("\n");
+    if (!strcmp(word, "wait") || !strcmp(word, "waitall"))
+        messages_awaited(named->count, named->requests);
     log_unlock();
 }
 
@@ -158,6 +162,8 @@ static void write_completed(struct request *it, bool tested) {
 static void complete(struct request *it, bool written, bool tested) {
     if (written && is_collective(it))
         write_completed(it, tested);
+    else if (written && it)
+        message_completed(it);
     if (it && it->persistent)
         it->active = false;
 }

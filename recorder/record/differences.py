@@ -74,6 +74,8 @@ class Judge:
 
     def __init__(self, records, contexts, unseen=()):
         self.records, self.contexts, self.unseen, self.compared = records, contexts, set(unseen), {}
+        self.shared = next(iter(records.values())).shared
+        self.names = [call.name for call in self.shared.calls]
         self.differ = {}  # of each context the first place at which calls differ
         self.unsure = {}  # what may be another one at each rank, or has no order, with why: DIFFERED or THREADS
         self.skipped, self.found = collections.Counter(), []
@@ -120,8 +122,8 @@ class Judge:
             return self.unsure.get(parent)
         if parent not in self.differ:
             return None
-        calls = [record.calls[parent][: self.differ[parent]] for record in self.records.values() if parent in record.calls]
-        return DIFFERED if min(sum(command.call.name in MAKERS for command in it) for it in calls) <= int(number) else None
+        ids = [record.calls[parent].ids[: self.differ[parent]] for record in self.records.values() if parent in record.calls]
+        return DIFFERED if min(sum(self.names[it] in MAKERS for it in row) for row in ids) <= int(number) else None
 
     def is_sure(self, key, index):
         """Whether the calls at a place of a context are known to be meant for one another."""
@@ -130,51 +132,74 @@ class Judge:
     def judge(self, key):
         """The first fault of a context, and before it a warning."""
         members = self.contexts.members(key)
-        calls = {rank: self.records[rank].calls.get(key, []) for rank in members if rank in self.records}
+        calls = {rank: self.records[rank].calls[key] for rank in members if rank in self.records and key in self.records[rank].calls}
+        absent = [rank for rank in members if rank in self.records and rank not in calls]
         most = max((len(it) for it in calls.values()), default=0)
-        found = []
+        found, begin = [], 0
         if len(members) < 2:
             members = members[:1]
-        for index in range(most):
-            here = {rank: it[index] for rank, it in calls.items() if index < len(it)}
-            difference = self.compare(key, members, index, here, most) or self.lack(key, index, here, calls, most)
-            if difference and (difference.is_fault() or not found):
-                found.append(difference)
-            if difference and (difference.is_fault() or difference.lacking):
+        for end in sorted({len(it) for it in calls.values()} - {0}):
+            here = {rank: it for rank, it in calls.items() if len(it) >= end}
+            lacking = [rank for rank in members if (rank in calls or rank in absent) and rank not in here and self.records[rank].ended]
+            # A rank that came to its end lacks the first of these, so what follows isn't judged.
+            found += self.compare_places(key, members, (begin, begin + 1 if lacking else end), here, most, not found)
+            if found and (found[-1].is_fault() or found[-1].lacking):
                 return found
+            if lacking:
+                missing = self.lack(key, begin, here, lacking, most)
+                return found + ([missing] if missing.is_fault() or not found else [])
+            begin = end
         return found + self.judge_starts(key, calls, most)
 
-    def compare(self, key, members, index, here, most):
-        alike = tuple(here[rank].call if rank in here else None for rank in members)
-        known = tuple(map(id, alike))
+    def compare_places(self, key, members, span, here, most, is_first):
+        """The first fault of the places in SPAN, where the ranks in HERE have calls, and before it a warning if it IS_FIRST."""
+        rows = [it.ids[span[0]:span[1]] for it in here.values()]
+        alike = all(row == rows[0] for row in rows)
+        kinds = {(it,) * len(rows) for it in set(rows[0])} if alike else set(zip(*rows))
+        ranks = list(here)
+        worse = {kind: it for kind in kinds for it in [self.compare_kind(members, ranks, kind)] if it}
+        found = []
+        if not worse:
+            return found
+        for index, kind in enumerate(zip(*rows), span[0]):
+            disagreement = worse.get(kind)
+            if disagreement and (disagreement.how > BY_LETTER or is_first and not found):
+                found.append(self.difference(key, members, index, {rank: it[index] for rank, it in here.items()}, disagreement, most))
+                if disagreement.how > BY_LETTER:
+                    break
+        return found
+
+    def compare_kind(self, members, ranks, kind):
+        """How the calls of some ranks disagree, each by the number of what it says; None where they agree."""
+        by_rank = dict(zip(ranks, kind))
+        known = tuple(by_rank.get(rank) for rank in members)
         if known not in self.compared:
             if len(self.compared) > MOST_REMEMBERED:
                 self.compared.clear()
-            self.compared[known] = compare({member: call for member, call in enumerate(alike) if call})
-        found = self.compared[known]
-        if not found:
-            return None
+            self.compared[known] = compare({member: self.shared.calls[it] for member, it in enumerate(known) if it is not None})
+        return self.compared[known]
+
+    def difference(self, key, members, index, here, found, most):
         what, concerned = found.what, found.members
         for member in concerned or ():
             what = what.replace(f"%{member} ", f"rank {members[member]} ").replace(f"%{member},", f"rank {members[member]},")
         calls = {rank: command for rank, command in here.items() if concerned is None or members.index(rank) in concerned}
         return Difference(key, index, what, calls, found.how, of=most)
 
-    def lack(self, key, index, here, calls, most):
-        """That a rank which came to its end has no call there."""
-        lacking = [rank for rank in calls if rank not in here and self.records[rank].ended]
-        if not lacking:
-            return None
-        harmless = all(command.call.name in FREES for command in here.values())
+    def lack(self, key, index, here, lacking, most):
+        """That ranks which came to their ends have no call there."""
+        calls = {rank: it[index] for rank, it in here.items()}
+        harmless = all(command.call.name in FREES for command in calls.values())
         what = f"{rank_words(lacking)} {'comes' if len(lacking) == 1 else 'come'} to MPI_Finalize without it"
-        return Difference(key, index, what, here, BY_LETTER if harmless else 2, lacking, most)
+        return Difference(key, index, what, calls, BY_LETTER if harmless else 2, lacking, most)
 
     def judge_starts(self, key, calls, most):
         """The first persistent call that a rank which came to its end has started fewer times than another."""
-        starts = {rank: collections.Counter(number for command in self.records[rank].commands if command.word == "start" for number in command.numbers) for rank in calls}
-        for index in range(most):
-            here = {rank: it[index] for rank, it in calls.items() if index < len(it) and it[index].call.form == "p"}
-            numbers = {rank: starts[rank][command.request] for rank, command in here.items()}
+        inits = {number for number, call in enumerate(self.shared.calls) if call.form == "p"}
+        places = sorted({index for it in calls.values() if inits.intersection(it.ids) for index, number in enumerate(it.ids) if number in inits})
+        for index in places:
+            here = {rank: it[index] for rank, it in calls.items() if index < len(it) and it.ids[index] in inits}
+            numbers = {rank: self.records[rank].starts[command.request] for rank, command in here.items()}
             if any(self.records[rank].ended and count < max(numbers.values()) for rank, count in numbers.items()):
                 shown = ", ".join(f"rank {rank} {count}" for rank, count in numbers.items())
                 return [Difference(key, index, f"the numbers of starts differ: {shown}", here, 2, of=most)]

@@ -93,6 +93,12 @@ void log_thread(void);
 extern long unwritten;
 extern unsigned long row;
 
+/* Messages, as their lines say: messages.c. The lock is held. A start of a persistent one is a message of its own. */
+void message_started(struct request *request);
+void messages_awaited(int count, struct request *const *requests);
+void message_completed(const struct request *request);
+void message_left(const struct request *request);
+
 /* Writes `WORD NUMBER`. */
 void write_numbered(const char *word, long number);
 

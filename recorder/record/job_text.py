@@ -1,6 +1,5 @@
 """The job text of a record: what colljob judges. What the profile doesn't have is said by what it has, with zeros for values."""
 
-import bisect
 import collections
 
 from agreement import SAME, call_name, compare_data, part
@@ -14,6 +13,8 @@ MOST_COUNT, MOST_BYTES = 65536, 16777216
 LONGEST = [4096, 1024, 256, 64, 16, 4]
 WIDTHS = {"i8": 1, "u8": 1, "byte": 1, "i16": 2, "u16": 2, "i32": 4, "u32": 4, "i64": 8, "u64": 8, "2int": 8}
 ENDLESS = 1 << 60
+# The words that complete all requests that they name.
+COMPLETING = ("wait", "waitall")
 # Where any thread may call MPI, one that hasn't called it yet may do what others wait for.
 MULTIPLE = 3
 # How many faults stand in the head of a text, which may not show them.
@@ -114,19 +115,14 @@ class Job:
     def __init__(self, records, contexts, places, judge, only=None, notes=()):
         self.records, self.contexts, self.places, self.judge = records, contexts, places, judge
         self.size = next(iter(records.values())).size
-        self.notes, self.signatures, self.starts = list(notes), {}, None
+        self.shared = next(iter(records.values())).shared
+        self.notes, self.signatures, self.chosen = list(notes), {}, {}
         self.differ = {fault.key: fault.index for fault in judge.faults()}
         self.choose_communicators(only)
         self.added = self.never_reached()
         self.known_kinds = None
         self.used = {count for signature, _ in self.kinds() for count in signature.counts}
-        self.posts = self.count_posts()
-
-    def calls(self):
-        for rank, record in self.records.items():
-            for command in record.commands:
-                if command.call and command.key in self.number:
-                    yield rank, command
+        self.lengths = [(begin, end) for key in filter(None, self.number) for _, _, begin, end in self.spans(key)]
 
     def choose_communicators(self, only):
         """The contexts that are used have numbers, in the order of their first use; those past the sixteenth have none."""
@@ -136,13 +132,12 @@ class Job:
             self.number = {only: 0} if only == "world" else {None: 0, only: 1}
             return
         for record in self.records.values():
-            for command in record.commands:
-                if not command.call or command.key in self.number:
-                    continue
-                if command.key not in unnumbered and len(self.number) < MOST_COMMUNICATORS:
-                    self.number[command.key] = len(self.number)
+            used = {key: calls for key, calls in record.calls.items() if len(calls) and key not in self.number}
+            for key, calls in sorted(used.items(), key=lambda it: it[1].positions[0]):
+                if key not in unnumbered and len(self.number) < MOST_COMMUNICATORS:
+                    self.number[key] = len(self.number)
                 else:
-                    unnumbered[command.key] += 1
+                    unnumbered[key] += len(calls)
         if unnumbered:
             self.notes.append(f"left out: all {sum(unnumbered.values())} calls on {len(unnumbered)} of the communicators, windows and files: a text has {MOST_COMMUNICATORS}")
         left = sum(sum(record.unknown.values()) for record in self.records.values())
@@ -150,30 +145,45 @@ class Job:
             self.notes.append(f"left out: {left} calls on communicators whose makers aren't recorded, or between two groups")
 
     def never_reached(self):
-        """Of each rank without an end, or without a record, the calls that others have made and it hasn't: the place and another's command."""
+        """Of each rank without an end, or without a record, the calls that others have made and it hasn't: the key, the first place, and another
+        rank with its calls."""
         added = collections.defaultdict(list)
         for key in filter(None, self.number):
             made = {rank: self.records[rank].calls.get(key, []) if rank in self.records else [] for rank in self.contexts.members(key)}
             longest = max(made.values(), key=len, default=[])
             for rank, own in made.items():
-                if rank not in self.records or not self.records[rank].ended:
-                    added[rank] += [(index, longest[index]) for index in range(len(own), len(longest))]
+                if len(own) < len(longest) and (rank not in self.records or not self.records[rank].ended):
+                    added[rank].append((key, len(own), longest))
         return added
 
-    def own_signature(self, rank, command):
-        members = self.contexts.members(command.key)
-        known = command.call, members.index(rank), len(members)
+    def first_calls(self, key, begin, end):
+        """Of the places in a span those parts of it where one member is the first that has a call: its rank and calls, and the part's end."""
+        while begin < end:
+            of = ((rank, self.records[rank].calls.get(key, ())) for rank in self.contexts.members(key) if rank in self.records)
+            rank, calls = next(((rank, it) for rank, it in of if len(it) > begin), (None, None))
+            if calls is None:
+                return
+            yield rank, calls, begin, min(end, len(calls))
+            begin = len(calls)
+
+    def own_signature(self, rank, key, call):
+        members = self.contexts.members(key)
+        known = call, members.index(rank), len(members)
         if known not in self.signatures:
             self.signatures[known] = signature_of(*known)
         return self.signatures[known]
 
     def signature(self, rank, command):
         """Calls that agree stand alike, as that of the first member: MPI lets them agree by other types too."""
-        own = self.own_signature(rank, command)
-        first = next((it for it in self.contexts.members(command.key) if it in self.records and command.index < len(self.records[it].calls.get(command.key, ()))), rank)
-        if first == rank or command.index >= self.differ.get(command.key, ENDLESS):
-            return own
-        theirs = self.own_signature(first, self.records[first].calls[command.key][command.index])
+        key, index = command.key, command.index
+        first, calls, _, _ = next(self.first_calls(key, index, index + 1), (rank, None, 0, 0))
+        if first == rank or index >= self.differ.get(key, ENDLESS):
+            return self.own_signature(rank, key, command.call)
+        return self.signature_by(rank, key, command.call, first, self.shared.calls[calls.ids[index]])
+
+    def signature_by(self, rank, key, call, first, first_call):
+        """The signature of a rank's call, where the first member's call agrees with it."""
+        own, theirs = self.own_signature(rank, key, call), self.own_signature(first, key, first_call)
         if own[:5] == theirs[:5]:
             return own
         return theirs._replace(exact=False, waits=own.waits, why=f"stands as rank {first} calls it, with zeros: MPI lets both agree")
@@ -198,10 +208,33 @@ class Job:
     def kinds(self):
         """The signatures that there are, with their numbers of members: few beside the calls."""
         if self.known_kinds is None:
-            calls = [(rank, command) for rank, command in self.calls()] + [(rank, command) for rank, added in self.added.items() for _, command in added]
-            kinds = {id(self.signature(rank, command)): (self.signature(rank, command), len(self.contexts.members(command.key))) for rank, command in calls}
+            kinds = {}
+            for key in filter(None, self.number):
+                for rank, calls, begin, end in self.spans(key):
+                    for signature in self.span_signatures(rank, key, calls, begin, end):
+                        kinds[repr(signature)] = signature, len(self.contexts.members(key))
             self.known_kinds = list(kinds.values())
         return self.known_kinds
+
+    def spans(self, key):
+        """The calls of each rank on a context, and those that are added: the rank, whose calls, and from where to where."""
+        for rank, record in self.records.items():
+            if key in record.calls:
+                yield rank, record.calls[key], 0, len(record.calls[key])
+        for rank, added in self.added.items():
+            yield from ((rank, longest, begin, len(longest)) for its_key, begin, longest in added if its_key == key)
+
+    def span_signatures(self, rank, key, calls, begin, end):
+        """The signatures of calls in a span: few beside the calls."""
+        differ = self.differ.get(key, ENDLESS)
+        found = [self.own_signature(rank, key, self.shared.calls[it]) for it in set(calls.ids[max(begin, differ):end])]
+        for first, firsts, low, high in self.first_calls(key, begin, min(end, differ)):
+            if first == rank:
+                found += [self.own_signature(rank, key, self.shared.calls[it]) for it in set(calls.ids[low:high])]
+                continue
+            for own, theirs in set(zip(calls.ids[low:high], firsts.ids[low:high])):
+                found.append(self.signature_by(rank, key, self.shared.calls[own], first, self.shared.calls[theirs]))
+        return found
 
     def values(self, rank, command, gift):
         """What stands after the signature or the request's number, with zeros for what isn't known."""
@@ -265,25 +298,51 @@ class Job:
         if rank not in self.records:
             return [f"rank {rank}", "# there is no record of this rank", *self.added_lines(rank, window)]
         record, lines = self.records[rank], [f"rank {rank}"]
-        for command in record.commands:
+        for position in self.positions(rank, window):
+            command = record.commands[position]
             own = self.lines(rank, command, window, starts)
             if not own and (command.word or not command.remarks):
                 continue
             lines.append(f"# {self.places.name(record, command.place) or 'place unknown'}")
-            lines += command.remarks + own
+            lines += [*command.remarks, *own]
         if not record.ended:
             lines.append(f"# the record of rank {rank} ends here, without MPI_Finalize")
             lines += self.added_lines(rank, window)
         return lines
 
+    def positions(self, rank, window):
+        """Where the commands stand that may have lines in a window: its calls, what is done with their requests, and remarks."""
+        if (rank, window) in self.chosen:
+            return self.chosen[rank, window]
+        record = self.records[rank]
+        commands, kinds = record.commands, record.commands.kinds
+        calls = sorted(it for key in self.number if key in record.calls for it in record.calls[key].positions[window[0]:window[1]])
+        requests = {commands.request_at(it) for it in calls} - {None}
+        alone = {code for code, kind in enumerate(kinds) if kind.word is None}
+        found = calls + ([it for it, code in enumerate(commands.codes) if code in alone] if alone else [])
+        naming = {code: kind for code, kind in enumerate(kinds) if kind.relative and kind.word != "message wait"}
+        waited = requests - record.persistent
+        for it in range(calls[0] if requests else len(commands), len(commands)):
+            kind = naming.get(commands.codes[it])
+            numbers = requests.intersection(kind.numbers(commands.extra[it])) if kind else None
+            if numbers:
+                found.append(it)
+                waited -= numbers if kind.word in COMPLETING else set()
+                if not waited and requests.isdisjoint(record.persistent) and it > calls[-1]:
+                    break  # what follows names none of them
+        self.chosen = {(rank_, window_): it for (rank_, window_), it in self.chosen.items() if window_ == window}
+        self.chosen[rank, window] = sorted(found)
+        return self.chosen[rank, window]
+
     def added_lines(self, rank, window):
         """What a rank never reached: starts of its persistent requests, and calls."""
         lines, why = [], f"never reached by rank {rank}" if rank in self.records else f"not recorded of rank {rank}"
-        for request, command in enumerate(self.records[rank].requests if rank in self.records else []):
-            if request in self.renumbered and command.call.form == "p":
-                lines += self.added_starts(rank, request, command)
-        for index, command in self.added[rank]:
-            if window[0] <= index < window[1]:
+        for request in sorted(self.records[rank].persistent) if rank in self.records else []:
+            if request in self.renumbered:
+                lines += self.added_starts(rank, request, self.records[rank].requests[request])
+        for key, begin, longest in self.added[rank]:
+            for index in range(max(begin, window[0]), min(len(longest), window[1])):
+                command = longest[index]
                 lines += ["# place unknown", f"# {why}: added as it must be if the ranks agree"] + self.remarks(rank, command)
                 persistent = command.call.form == "p"
                 lines.append(" ".join(self.head("init" if persistent else "post", rank, command) + ([] if persistent else self.values(rank, command, []))))
@@ -305,10 +364,8 @@ class Job:
 
     def most_started(self, key, index):
         """How often a persistent call was started at the rank that has started it most."""
-        if not self.starts:
-            self.starts = collections.Counter((rank, number) for rank, record in self.records.items() for command in record.commands if command.word == "start" for number in command.numbers)
         made = {rank: record.calls[key][index] for rank, record in self.records.items() if index < len(record.calls.get(key, ()))}
-        return min(self.most_kept, max((self.starts[rank, command.request] for rank, command in made.items()), default=0))
+        return min(self.most_kept, max((self.records[rank].starts[command.request] for rank, command in made.items()), default=0))
 
     def text(self, window, starts, longest):
         self.choose_counts(longest)
@@ -324,24 +381,23 @@ class Job:
 
     # What fits
 
-    def count_posts(self):
-        """How many posts stand before each place, over all communicators and ranks."""
-        at = collections.Counter(command.index for _, command in self.calls())
-        at.update(index for added in self.added.values() for index, _ in added)
-        before = [0]
-        for index in range(max(at, default=0) + 1):
-            before.append(before[-1] + at[index])
-        return before
+    def posts_before(self, place):
+        """How many posts stand before a place, over all communicators and ranks."""
+        return sum(min(end, place) - min(begin, place) for begin, end in self.lengths)
 
     def most_places(self):
-        return len(self.posts) - 1
+        return max((end for _, end in self.lengths), default=0)
 
     def most_starts(self):
-        return max(collections.Counter((rank, number) for rank, record in self.records.items() for command in record.commands if command.word == "start" for number in command.numbers).values(), default=0)
+        return max((number for record in self.records.values() for number in record.starts.values()), default=0)
 
     def last_place(self, first, last):
         """The greatest end of a window whose posts a text can have."""
-        return max(first + 1, bisect.bisect_right(self.posts, self.posts[min(first, last)] + MOST_REQUESTS, first, last + 1) - 1)
+        most, low = self.posts_before(min(first, last)) + MOST_REQUESTS, first
+        while low < last:
+            middle = (low + last + 1) // 2
+            low, last = (middle, last) if self.posts_before(middle) <= most else (low, middle - 1)
+        return max(first + 1, low)
 
     def fitting_text(self, first, before=ENDLESS):
         """The text from place FIRST on, with as little left out as its limits ask for, in this order: values, starts after some number,

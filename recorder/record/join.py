@@ -13,7 +13,8 @@ import argparse
 import sys
 
 from differences import Contexts, Judge
-from job_text import Job
+from job_text import Job, why_not_judged
+from messages import Messages
 from output import FAILED, run_reporting, write_out
 from records import Places, Unreadable, read_records
 from stalls import doubts
@@ -38,7 +39,11 @@ def main():
     places = Places(records)
     contexts = Contexts(records, places)
     nows = read_nows(words.folder, records)
-    job = Job(records, contexts, places, Judge(records, contexts, ranks_unseen(nows)), notes=limits_of(records, nows) + doubts(records, contexts))
+    judge = Judge(records, contexts, ranks_unseen(nows))
+    notes = limits_of(records, nows) + doubts(records, contexts)
+    if not why_not_judged(records, judge.unseen):
+        notes += Messages(records, contexts, places, nows).notes()
+    job = Job(records, contexts, places, judge, notes=notes)
     lines = job.fitting_text(words.first)
     if lines is None:
         return give_up(f"{words.folder}: " + "; ".join(job.notes))

@@ -57,6 +57,14 @@ struct gift {
     long count, blocks;
 };
 
+/* What a call says of a message, and its number among the messages with requests of this rank: NO_REQUEST for one that isn't written. */
+struct message {
+    char form;
+    struct message_class *class;
+    int type;
+    long count, number;
+};
+
 struct request {
     MPI_Request handle;
     const MPI_Request *variable; /* where the program's handle stood as it was made, or null */
@@ -68,6 +76,7 @@ struct request {
     MPI_Comm *made; /* where that then stands */
     char *key;      /* likewise */
     struct awaited awaited;
+    struct message message; /* of a message */
     unsigned long named; /* the last completion call that named it */
     unsigned long asked; /* the last row of tests in which a test of it was written */
     long unwritten;      /* the tests of it since then that weren't */

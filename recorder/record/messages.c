@@ -1,9 +1,32 @@
-/* Messages from one rank to another. They aren't recorded one by one: the call under way is, and how many of each kind were called. */
+/* Messages from one rank to another: the call under way, how many of each class were called, and a line for each, in the order of the calls.
+
+   `class N s|r CONTEXT RANK TAG`  the messages that this rank sends to a rank, or receives from it, with a tag; -1 for any
+   `+F N`, `+F N TYPE*COUNT`       one of class N, with the type and count of the one before it in that class, or with these. F is S for a
+                                   send, B for one that copies, R for a receive; small letters make the next message with a request
+   `=A B ..`                       waits for messages with requests: the Ath of those made last, the Bth ..
+   `-A`                            a call for any or some, or a test, completed it
+   `left A`                        it wasn't complete at MPI_Finalize */
 #include "entries.h"
 #include "log.h"
+#include "types.h"
+
+#include <stdio.h>
+#include <stdlib.h>
 
 /* A send that copies its message waits for nobody. */
 enum mode { USUAL = 0, COPIED = BUFFERED };
+
+enum { CLASSES = 4096 };
+
+/* Messages alike but for their types and counts. */
+static struct message_class {
+    int kind, context, rank, tag, number;
+    int type; /* of the last one */
+    long count;
+    struct message_class *next;
+} *classes[CLASSES];
+static int class_numbers;
+static long requests_made;
 
 static struct awaited message(enum awaited_kind kind, enum mode mode, MPI_Comm comm, int peer, int tag) {
     struct context *context = context_of_comm(comm);
@@ -13,12 +36,126 @@ static struct awaited message(enum awaited_kind kind, enum mode mode, MPI_Comm c
     return awaited;
 }
 
-static void await_message(enum awaited_kind kind, enum mode mode, MPI_Comm comm, int peer, int tag) {
+static struct message_class *class_of(struct awaited of) {
+    unsigned hash = (unsigned)of.kind * 7919u + (unsigned)of.context * 104729u + (unsigned)of.rank * 31u + (unsigned)of.tag * 2654435761u;
+    struct message_class **bucket = &classes[hash % CLASSES], *it = *bucket;
+    while (it && !(it->kind == of.kind && it->context == of.context && it->rank == of.rank && it->tag == of.tag))
+        it = it->next;
+    if (it)
+        return it;
+    it = malloc(sizeof *it);
+    if (!it) {
+        fprintf(stderr, "record: no memory\n");
+        abort();
+    }
+    *it = (struct message_class){.kind = of.kind, .context = of.context, .rank = of.rank, .tag = of.tag, .number = class_numbers++, .type = -1, .next = *bucket};
+    *bucket = it;
+    char line[128];
+    snprintf(line, sizeof line, "class %d %c %d %d %d\n", it->number, of.kind == AWAITED_SEND ? 's' : 'r', of.context, of.rank, of.tag);
+    log_text(line);
+    return it;
+}
+
+/* (Messages are no end of a row of tests.) */
+static void write_message(struct message *it) {
+    const char form[] = {'+', it->form, ' ', 0};
+    log_thread();
+    log_place(here);
+    log_text(form);
+    log_signed(it->class->number);
+    if (it->type != it->class->type || it->count != it->class->count) {
+        log_text(" ");
+        log_signed(it->type);
+        log_text("*");
+        log_signed(it->count);
+        it->class->type = it->type;
+        it->class->count = it->count;
+    }
+    log_text("\n");
+    if (it->form > 'Z')
+        it->number = requests_made++;
+}
+
+/* What a call says of a message. One to or from nobody, or a rank that isn't known, isn't written. */
+static struct message described(struct awaited awaited, char form, MPI_Datatype type, long count) {
+    struct message it = {.form = form, .number = NO_REQUEST};
+    if (awaited.context < 0 || awaited.rank < ANY_RANK || !log_stands())
+        return it;
+    const struct type *known = type_of(type);
+    it.class = class_of(awaited);
+    it.type = known ? known->number : -1;
+    it.count = count;
+    return it;
+}
+
+static char form_of(enum awaited_kind kind, enum mode mode) { return kind == AWAITED_RECEIVE ? 'R' : mode == COPIED ? 'B' : 'S'; }
+
+void message_started(struct request *request) {
+    if (request->message.class)
+        write_message(&request->message);
+}
+
+void messages_awaited(int count, struct request *const *requests) {
+    bool begun = false;
+    for (int place = 0; place < count; place++) {
+        const struct request *it = requests[place];
+        if (!it || !it->active || it->number != NO_REQUEST || it->message.number == NO_REQUEST)
+            continue;
+        if (!begun) {
+            log_thread();
+            log_place(here);
+        }
+        log_text(begun ? " " : "=");
+        log_signed(requests_made - it->message.number);
+        begun = true;
+    }
+    if (begun)
+        log_text("\n");
+}
+
+void message_completed(const struct request *request) {
+    if (request->message.number == NO_REQUEST || !request->active)
+        return;
+    log_thread();
+    log_place(here);
+    log_text("-");
+    log_signed(requests_made - request->message.number);
+    log_text("\n");
+}
+
+void message_left(const struct request *request) {
+    if (request->message.number != NO_REQUEST)
+        write_numbered("left", requests_made - request->message.number);
+}
+
+static void await_message(enum awaited_kind kind, enum mode mode, MPI_Comm comm, int peer, int tag, MPI_Datatype type, long count) {
     log_lock();
     struct awaited awaited = message(kind, mode, comm, peer, tag);
+    struct message it = described(awaited, form_of(kind, mode), type, count);
     awaited.index = now_count(awaited);
+    if (it.class)
+        write_message(&it);
     log_unlock();
     now_awaits(awaited);
+}
+
+/* Both parts of an exchange are under way at once. */
+static void await_exchange(MPI_Comm comm, int to, int sent_tag, MPI_Datatype sent_type, long sent_count, int from, int got_tag, MPI_Datatype got_type,
+                           long got_count) {
+    log_lock();
+    struct awaited awaited[] = {message(AWAITED_SEND, USUAL, comm, to, sent_tag), message(AWAITED_RECEIVE, USUAL, comm, from, got_tag)};
+    struct message both[] = {described(awaited[0], 's', sent_type, sent_count), described(awaited[1], 'r', got_type, got_count)};
+    struct request first = {.number = NO_REQUEST, .active = true}, second = first, *requests[] = {&first, &second};
+    for (int part = 0; part < 2; part++) {
+        awaited[part].index = now_count(awaited[part]);
+        if (both[part].class)
+            write_message(&both[part]);
+        requests[part]->message = both[part];
+    }
+    messages_awaited(2, requests);
+    log_unlock();
+    now_awaits(awaited[0]);
+    now_awaits(awaited[1]);
 }
 
 /* Of a call that failed it isn't known whether it sent or received. */
@@ -29,19 +166,26 @@ static int returned(int result) {
 }
 
 /* How many messages alike a persistent request has called is known only at its starts. */
-static void follow_message(const MPI_Request *handle, enum awaited_kind kind, enum mode mode, MPI_Comm comm, int peer, int tag, bool persistent) {
+static void follow_message(const MPI_Request *handle, enum awaited_kind kind, enum mode mode, MPI_Comm comm, int peer, int tag, MPI_Datatype type,
+                           long count, bool persistent) {
     log_lock();
     struct awaited awaited = message(kind, mode, comm, peer, tag);
-    if (!persistent)
+    struct message it = described(awaited, (char)(form_of(kind, mode) + 'a' - 'A'), type, count);
+    if (!persistent) {
         awaited.index = now_count(awaited);
-    request_made(handle, NO_REQUEST, persistent, awaited);
+        if (it.class)
+            write_message(&it);
+    }
+    request_made(handle, NO_REQUEST, persistent, awaited)->message = it;
     log_unlock();
+    if (!persistent)
+        now_makes(awaited);
 }
 
 #define SENDING(NAME, count_type, mode)                                                                                                     \
     INTERPOSED(MPI_##NAME, (const void *buffer, count_type count, MPI_Datatype type, int peer, int tag, MPI_Comm comm),                     \
                (buffer, count, type, peer, tag, comm)) {                                                                                    \
-        await_message(AWAITED_SEND, mode, comm, peer, tag);                                                                                 \
+        await_message(AWAITED_SEND, mode, comm, peer, tag, type, (long)count);                                                              \
         return returned(next_MPI_##NAME(buffer, count, type, peer, tag, comm));                                                             \
     }
 
@@ -51,7 +195,7 @@ static void follow_message(const MPI_Request *handle, enum awaited_kind kind, en
                (buffer, count, type, peer, tag, comm, request)) {                                                                           \
         int result = next_MPI_##NAME(buffer, count, type, peer, tag, comm, request);                                                        \
         if (result == MPI_SUCCESS)                                                                                                          \
-            follow_message(request, AWAITED_SEND, mode, comm, peer, tag, persistent);                                                       \
+            follow_message(request, AWAITED_SEND, mode, comm, peer, tag, type, (long)count, persistent);                                    \
         return result;                                                                                                                      \
     }
 
@@ -60,14 +204,14 @@ static void follow_message(const MPI_Request *handle, enum awaited_kind kind, en
                (buffer, count, type, peer, tag, comm, request)) {                                                                           \
         int result = next_MPI_##NAME(buffer, count, type, peer, tag, comm, request);                                                        \
         if (result == MPI_SUCCESS)                                                                                                          \
-            follow_message(request, AWAITED_RECEIVE, USUAL, comm, peer, tag, persistent);                                                   \
+            follow_message(request, AWAITED_RECEIVE, USUAL, comm, peer, tag, type, (long)count, persistent);                                \
         return result;                                                                                                                      \
     }
 
 #define RECEIVING(NAME, count_type)                                                                                                         \
     INTERPOSED(MPI_##NAME, (void *buffer, count_type count, MPI_Datatype type, int peer, int tag, MPI_Comm comm, MPI_Status *status),       \
                (buffer, count, type, peer, tag, comm, status)) {                                                                            \
-        await_message(AWAITED_RECEIVE, USUAL, comm, peer, tag);                                                                             \
+        await_message(AWAITED_RECEIVE, USUAL, comm, peer, tag, type, (long)count);                                                          \
         return returned(next_MPI_##NAME(buffer, count, type, peer, tag, comm, status));                                                     \
     }
 
@@ -76,8 +220,7 @@ static void follow_message(const MPI_Request *handle, enum awaited_kind kind, en
                (const void *sent, count_type sent_count, MPI_Datatype sent_type, int to, int sent_tag, void *got, count_type got_count,     \
                 MPI_Datatype got_type, int from, int got_tag, MPI_Comm comm, MPI_Status *status),                                           \
                (sent, sent_count, sent_type, to, sent_tag, got, got_count, got_type, from, got_tag, comm, status)) {                        \
-        await_message(AWAITED_SEND, USUAL, comm, to, sent_tag);                                                                             \
-        await_message(AWAITED_RECEIVE, USUAL, comm, from, got_tag);                                                                         \
+        await_exchange(comm, to, sent_tag, sent_type, (long)sent_count, from, got_tag, got_type, (long)got_count);                          \
         return returned(next_MPI_##NAME(sent, sent_count, sent_type, to, sent_tag, got, got_count, got_type, from, got_tag, comm, status)); \
     }
 
@@ -86,8 +229,7 @@ static void follow_message(const MPI_Request *handle, enum awaited_kind kind, en
                (void *buffer, count_type count, MPI_Datatype type, int to, int sent_tag, int from, int got_tag, MPI_Comm comm,              \
                 MPI_Status *status),                                                                                                        \
                (buffer, count, type, to, sent_tag, from, got_tag, comm, status)) {                                                          \
-        await_message(AWAITED_SEND, USUAL, comm, to, sent_tag);                                                                             \
-        await_message(AWAITED_RECEIVE, USUAL, comm, from, got_tag);                                                                         \
+        await_exchange(comm, to, sent_tag, type, (long)count, from, got_tag, type, (long)count);                                            \
         return returned(next_MPI_##NAME(buffer, count, type, to, sent_tag, from, got_tag, comm, status));                                   \
     }
 
@@ -152,7 +294,7 @@ INTERPOSED(MPI_Probe, (int peer, int tag, MPI_Comm comm, MPI_Status *status), (p
 }
 
 INTERPOSED(MPI_Mprobe, (int peer, int tag, MPI_Comm comm, MPI_Message *taken, MPI_Status *status), (peer, tag, comm, taken, status)) {
-    await_message(AWAITED_RECEIVE, USUAL, comm, peer, tag);
+    await_message(AWAITED_RECEIVE, USUAL, comm, peer, tag, MPI_DATATYPE_NULL, 0);
     return returned(next_MPI_Mprobe(peer, tag, comm, taken, status));
 }
 
@@ -160,8 +302,13 @@ INTERPOSED(MPI_Improbe, (int peer, int tag, MPI_Comm comm, int *flag, MPI_Messag
            (peer, tag, comm, flag, taken, status)) {
     int result = next_MPI_Improbe(peer, tag, comm, flag, taken, status);
     log_lock();
-    if (result == MPI_SUCCESS && *flag)
-        now_count(message(AWAITED_RECEIVE, USUAL, comm, peer, tag));
+    if (result == MPI_SUCCESS && *flag) {
+        struct awaited awaited = message(AWAITED_RECEIVE, USUAL, comm, peer, tag);
+        struct message it = described(awaited, 'R', MPI_DATATYPE_NULL, 0);
+        now_count(awaited);
+        if (it.class)
+            write_message(&it);
+    }
     log_unlock();
     return result;
 }

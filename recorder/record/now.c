@@ -14,6 +14,9 @@
 #include <time.h>
 #include <unistd.h>
 
+/* Of each rank the times of its first calls are kept, and of its last ones. */
+enum { FIRST_CALLS = 1024, LAST_CALLS = 3072 };
+
 enum { THREADS = 64, SHOWN = 24, NAME = 40, MESSAGES = 4096, TRIES = 64, VERSION = 1, UNSEEN = 1, LOST = 2, UNSHOWN = 4, ELSEWHERE = 8, CALLBACKS = 16 };
 
 /* The beat is a lower bound of the time up to which the process lived. A tenth of a second is short beside a hang that a person notices. */
@@ -51,7 +54,17 @@ struct now {
     struct message_count messages[MESSAGES];
 };
 
+/* The file of the calls' times. */
+struct timed {
+    uint32_t version, rank, size, unused;
+    uint64_t run;
+    _Atomic uint64_t calls; /* how many were over */
+    struct timed_call first[FIRST_CALLS], last[LAST_CALLS];
+};
+
 static struct now *now;
+static struct timed *timed;
+static _Thread_local struct timed_call under_way; /* what isn't awaited, of the call under way */
 static atomic_int threads;
 
 /* What the beat knows of each thread. */
@@ -125,21 +138,33 @@ static void begin_beat(void) {
     pthread_sigmask(SIG_SETMASK, &before, NULL);
 }
 
-void now_open(const char *folder, int rank, int size, long run) {
+/* A fresh file of this rank in memory, or null. LOST says what isn't recorded then. */
+static void *map_file(const char *folder, const char *name, int rank, size_t bytes, const char *lost) {
     char path[4096];
-    snprintf(path, sizeof path, "%s/now.%d", folder, rank);
+    snprintf(path, sizeof path, "%s/%s.%d", folder, name, rank);
     unlink(path);
     int file = open(path, O_RDWR | O_CREAT | O_TRUNC | O_CLOEXEC, 0666);
-    void *bytes = MAP_FAILED;
-    if (file >= 0 && !(errno = posix_fallocate(file, 0, sizeof(struct now))))
-        bytes = mmap(NULL, sizeof(struct now), PROT_READ | PROT_WRITE, MAP_SHARED, file, 0);
-    if (bytes == MAP_FAILED)
-        fprintf(stderr, "record: %s: %s; where rank %d stands isn't recorded\n", path, strerror(errno), rank);
+    void *found = MAP_FAILED;
+    if (file >= 0 && !(errno = posix_fallocate(file, 0, (off_t)bytes)))
+        found = mmap(NULL, bytes, PROT_READ | PROT_WRITE, MAP_SHARED, file, 0);
+    if (found == MAP_FAILED)
+        fprintf(stderr, "record: %s: %s; %s of rank %d isn't recorded\n", path, strerror(errno), lost, rank);
     if (file >= 0)
         close(file);
-    if (bytes == MAP_FAILED)
+    return found == MAP_FAILED ? NULL : found;
+}
+
+void now_open(const char *folder, int rank, int size, long run) {
+    timed = map_file(folder, "times", rank, sizeof *timed, "when its calls began and ended");
+    if (timed) {
+        timed->version = VERSION;
+        timed->rank = (uint32_t)rank;
+        timed->size = (uint32_t)size;
+        timed->run = (uint64_t)run;
+    }
+    now = map_file(folder, "now", rank, sizeof *now, "where it stands");
+    if (!now)
         return;
-    now = bytes;
     now->version = VERSION;
     now->rank = (uint32_t)rank;
     now->size = (uint32_t)size;
@@ -179,7 +204,7 @@ void now_enter(const char *name, int place) {
     standing->ran = standing->asleep = 0;
     standing->calls++;
     standing->place = place;
-    standing->awaited = standing->any = 0;
+    standing->awaited = standing->any = under_way.awaited = 0;
     strncpy(standing->name, name, NAME - 1);
     atomic_store_explicit(&standing->inside, 1, memory_order_release);
 }
@@ -199,12 +224,36 @@ void now_any(void) {
         standing->any = 1;
 }
 
+void now_makes(struct awaited awaited) {
+    if (under_way.awaited < SHOWN_OF_CALL)
+        under_way.shown[under_way.awaited++] = awaited;
+}
+
+/* Threads may end calls at once, so each takes a place of its own. */
+static void note_times(const struct standing *standing, uint64_t begun) {
+    uint64_t number = atomic_fetch_add(&timed->calls, 1);
+    struct timed_call *call = number < FIRST_CALLS ? &timed->first[number] : &timed->last[(number - FIRST_CALLS) % LAST_CALLS];
+    call->begun = begun;
+    call->ended = standing->since;
+    call->place = standing->place;
+    call->thread = thread;
+    call->any = standing->any;
+    memcpy(call->name, standing->name, sizeof call->name - 1);
+    int made = under_way.awaited, waited = standing->awaited < SHOWN_OF_CALL - made ? standing->awaited : SHOWN_OF_CALL - made;
+    memcpy(call->shown, under_way.shown, (size_t)made * sizeof *call->shown);
+    memcpy(call->shown + made, standing->shown, (size_t)waited * sizeof *call->shown);
+    call->awaited = made + waited;
+}
+
 void now_leave(void) {
     struct standing *standing = mine();
     if (!standing)
         return;
+    uint64_t begun = standing->since;
     standing->since = clock_now();
     atomic_store_explicit(&standing->inside, 0, memory_order_release);
+    if (timed)
+        note_times(standing, begun);
 }
 
 void now_cancelled(void) {

@@ -20,6 +20,15 @@ struct awaited {
     int32_t form;    /* of a message or collective: 0 of the call itself, 1 of a request; 2 more of a send that is buffered */
 };
 
+/* A call that is over, in the file of the calls' times. */
+enum { SHOWN_OF_CALL = 6 };
+struct timed_call {
+    uint64_t begun, ended; /* nanoseconds of the clock; 0 for an empty one */
+    int32_t place, thread, awaited, any;
+    char name[32];
+    struct awaited shown[SHOWN_OF_CALL]; /* the first of what it waited for, or made */
+};
+
 void now_open(const char *folder, int rank, int size, long run);
 void now_finalized(void);
 
@@ -30,6 +39,9 @@ void now_awaits(struct awaited awaited);
 /* Says that one of what is awaited is enough. */
 void now_any(void);
 void now_leave(void);
+
+/* Says what the call under way has made, and doesn't wait for. */
+void now_makes(struct awaited awaited);
 
 /* Counts a message, and returns how many alike were counted before: of this kind, context, rank and tag. The lock is held. */
 long now_count(struct awaited message);

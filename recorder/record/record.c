@@ -194,6 +194,8 @@ INTERPOSED(MPI_Session_init, (MPI_Info info, MPI_Errhandler handler, MPI_Session
 static void write_open(const struct request *request) {
     if (request->number != NO_REQUEST && request->active)
         write_numbered("open", request->number);
+    else if (request->active)
+        message_left(request);
 }
 
 INTERPOSED(MPI_Finalize, (void), ()) {

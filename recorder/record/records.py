@@ -6,6 +6,8 @@ import re
 import struct
 import subprocess
 
+from commands import Calls, Commands, Kind, Requests, Row, Shared
+
 
 class Unreadable(Exception):
     """A folder or file that holds no record to be judged."""
@@ -25,98 +27,167 @@ Context = collections.namedtuple("Context", "kind key maker members place")
 
 NO_TYPE = Type("byte", 0, False, 0, (), True)
 
+NEWLINE, AT, PERCENT, HASH, PLUS, EQUALS, MINUS = b"\n@%#+=-"
 
-class Command:
-    """One line of a record: a collective call, or what is done with requests."""
-
-    __slots__ = ("place", "thread", "remarks", "word", "numbers", "call", "key", "index", "request", "gift", "refused", "done")
-
-    def __init__(self, place, thread, remarks, word):
-        self.place, self.thread, self.remarks, self.word = place, thread, remarks, word
-        self.numbers, self.call, self.key, self.index, self.request, self.gift, self.refused, self.done = [], None, None, None, None, [], None, False
+# How many of the calls that the library refused are kept with their words.
+MOST_REFUSED = 16
 
 
 class Record:
     """What one rank wrote."""
 
     def __init__(self, path, shared):
-        self.path, self.shared = path, shared
-        self.commands, self.contexts, self.places, self.types, self.operations = [], {}, {}, {}, {}
+        self.path, self.shared, self.commands = path, shared, Commands(path)
+        self.contexts, self.places, self.types, self.operations = {}, {}, {}, {}
         self.ended = False
         self.unsure = False  # whether a wait may have been for another request than the one that is written
         self.opened = []  # the numbers of collective requests that weren't complete as it came to MPI_Finalize
-        self.refused = []  # the commands that the library refused
+        self.rows = {}  # the messages alike, by their number
+        self.left = []  # the positions of messages that weren't complete as it came to MPI_Finalize
+        self.refused = []  # the first commands that the library refused
         self.operation_places = {}  # where the program made its operations, by their order
         self.abort = None
         self.unknown = collections.Counter()
-        self.calls = collections.defaultdict(list)  # of each context the commands, in their order
-        self.requests = []  # the commands that made requests
+        self.calls = {}  # of each context the commands, in their order
+        self.requests = Requests(self.commands)
+        self.persistent = set()  # the numbers of the persistent ones
+        self.starts = collections.Counter()  # how often each was started
         self.threads = collections.defaultdict(set)  # of each context the threads that called on it
         self.callers = set()  # all threads of the commands
-        self.tests = {}  # of each request the last test
+        self.tests = {}  # of each request that isn't complete the position of the last test
         self.thread_level = 0
+        self.seen = {}  # the kinds of commands, by place, thread and what their lines say
+        self.line = 1
         try:
             with open(path, "rb") as file:
-                # The file of a program that was killed has zeros after its last line, or a part of a line.
-                written = file.read().rstrip(b"\0").decode(errors="replace")
+                self.read_head(file.readline().rstrip(b"\0").decode(errors="replace"))
+                self.read(file)
         except OSError as why:
             raise Unreadable(f"{path}: {why.strerror}") from why
-        lines = written.split("\n")
-        head = re.fullmatch(r"record 2 rank (\d+) of (\d+) run (\d+) library (\w+)", lines[0])
-        if not head:
-            old = lines[0].startswith("record 1 ")
-            raise Unreadable(f"{path}: " + ("written by an older recorder: record anew" if old else "not a record, or one that was cut in its first line"))
-        self.rank, self.size, self.run = map(int, head.groups()[:3])
-        self.library = head[4]
-        self.parsed, self.line = {}, 1
-        try:
-            self.read(lines[1:-1])
         except (ValueError, KeyError, IndexError) as why:
             raise Unreadable(f"{path}: line {self.line}: not a line of a record") from why
 
-    def read(self, lines):
-        place, thread, remarks = None, 0, []
-        for line in lines:
+    def read_head(self, line):
+        head = re.fullmatch(r"record 2 rank (\d+) of (\d+) run (\d+) library (\w+)\n", line)
+        if not head:
+            old = line.startswith("record 1 ")
+            raise Unreadable(f"{self.path}: " + ("written by an older recorder: record anew" if old else "not a record, or one that was cut in its first line"))
+        self.rank, self.size, self.run = map(int, head.groups()[:3])
+        self.library = head[4]
+
+    def read(self, file):
+        """Reads all lines. The file of a program that was killed has zeros after its last line, or a part of a line."""
+        offset = file.tell()
+        place, thread, remarks, known = None, 0, [], self.kinds_at(None, 0)
+        for line in file:
+            if line[-1] != NEWLINE or not line[0]:
+                break
             self.line += 1
-            first = line[:1]
-            if first == "@":
+            first = line[0]
+            if first == AT:
                 place = int(line[1:])
-            elif first == "%":
+                known = self.kinds_at(place, thread)
+            elif first == PERCENT:
                 thread = int(line[1:])
-            elif first == "#":
-                remarks.append(line)
-            elif line.startswith("call "):
-                self.read_call(line, place, thread, remarks)
-                remarks = []
+                known = self.kinds_at(place, thread)
+            elif first == HASH:
+                remarks.append(line[:-1].decode(errors="replace"))
+            elif line.startswith(b"call "):
+                body = line.partition(b" : ")[0]
+                kind = known.get(body) if not remarks else None
+                self.take_call(kind or self.call_kind(body, place, thread, remarks, known), offset)
+                if remarks:
+                    remarks = []
+            elif first == PLUS:
+                kind = known.get(line)
+                self.take_message(kind or self.message_kind(line, place, thread, known), place, offset)
+            elif first == EQUALS:
+                code = known.get(line)
+                if code is None:
+                    self.callers.add(thread)
+                    code = known[line] = self.commands.add_kind(Kind(place, thread, (), "message wait", relative=tuple(map(int, line[1:].split()))))
+                self.commands.add(code, len(self.commands.messages), offset)
+            elif first == MINUS:
+                pass  # a call for any or some, or a test, completed a message: another library may complete another
+            elif line.startswith(b"wait"):
+                self.read_wait(line.split(), place, thread, remarks, known, offset)
+                if remarks:
+                    remarks = []
             else:
-                remarks = self.read_other(line.split(" "), place, thread, remarks)
+                remarks = self.read_other(line[:-1].decode(errors="replace").split(" "), place, thread, remarks, offset)
+            offset += len(line)
+        self.seen.clear()
 
-    def read_call(self, line, place, thread, remarks):
-        colon, tilde = line.find(" : "), line.find(" ~ ")
-        end = colon if colon >= 0 else tilde if tilde >= 0 else len(line)
-        body = line[5:end]
-        known = self.parsed.get(body)
-        if known is None:
-            known = self.parsed[body] = self.parse(body.split(" "))
-        command = Command(place, thread, remarks, "call")
-        number, command.call = known
-        command.key = self.contexts[number].key
-        command.gift = line[end + 1:].split(" ") if end < len(line) else []
-        self.take(command)
+    def kinds_at(self, place, thread):
+        return self.seen.setdefault((place, thread), {})
 
-    def take(self, command):
-        calls = self.calls[command.key]
-        command.index = len(calls)
-        calls.append(command)
-        self.threads[command.key].add(command.thread)
-        self.callers.add(command.thread)
-        if command.call.form in "np":
-            command.request = len(self.requests)
-            self.requests.append(command)
-        self.commands.append(command)
+    def take_call(self, kind, offset):
+        code, calls, call_id, has_request = kind
+        commands = self.commands
+        position = len(commands.codes)
+        commands.codes.append(code)
+        commands.extra.append(len(calls.positions))
+        commands.offsets.append(offset)
+        calls.positions.append(position)
+        calls.ids.append(call_id)
+        if has_request:
+            self.take_request(position, has_request)
+
+    def take_request(self, position, form):
+        if form == "p":
+            self.persistent.add(len(self.commands.requests))
+        self.commands.requests.append(position)
+
+    def call_kind(self, body, place, thread, remarks, known):
+        """The kind of a call that has stood nowhere before: its number, the calls of its context, what it says, and its form if it makes a request."""
+        words = body.decode(errors="replace").rstrip("\n").partition(" ~ ")[0].split(" ")[1:]
+        number, call = self.parse(words)
+        key = self.contexts[number].key
+        call_id = self.shared.number(call)
+        calls = self.calls.setdefault(key, Calls(self.commands))
+        self.threads[key].add(thread)
+        self.callers.add(thread)
+        code = self.commands.add_kind(Kind(place, thread, tuple(remarks), "call", self.shared.calls[call_id], key))
+        kind = code, calls, call_id, call.form if call.form in "np" else None
+        if not remarks:
+            known[body] = kind
+        return kind
+
+    def message_kind(self, line, place, thread, known):
+        """The kind of a message's line: its number, its row, whether it makes a request, and its type and number of elements where it says them."""
+        words = line[1:].decode().split()
+        row = self.rows[int(words[1])]
+        says = words[2].split("*") if words[2:] else None
+        kind = Kind(place, thread, (), "message", key=row.key)
+        kind.form, kind.row = words[0], row
+        self.callers.add(thread)
+        known[line] = self.commands.add_kind(kind), row, words[0].islower(), (self.type(says[0]), int(says[1])) if says else None
+        return known[line]
+
+    def take_message(self, kind, place, offset):
+        code, row, makes_request, says = kind
+        if makes_request:
+            self.commands.messages.append(len(self.commands))
+        self.commands.add(code, row.count, offset)
+        if says:
+            row.says.append((row.count, *says, place))
+        row.count += 1
+
+    def read_wait(self, words, place, thread, remarks, known, offset):
+        made, persistent = len(self.commands.requests), self.persistent
+        numbers = [int(it) for it in words[1:]]
+        if numbers and not 0 <= min(numbers) <= max(numbers) < made:
+            raise ValueError
+        relative = tuple([-it - 1 if it in persistent else made - it for it in numbers])
+        line = words[0], relative, tuple(remarks)
+        code = known.get(line)
+        if code is None:
+            self.callers.add(thread)
+            code = known[line] = self.commands.add_kind(Kind(place, thread, tuple(remarks), words[0].decode(), relative=relative))
+        self.commands.add(code, made, offset)
 
     def parse(self, words):
-        """The number of the context, and the call: one object for all calls alike, of all ranks."""
+        """The number of the context, and the call."""
         root = op = sent = got = None
         for word in words[3:]:
             rest = word[1:]
@@ -128,8 +199,7 @@ class Record:
                 sent = self.side(rest)
             elif word[0] == "g":
                 got = self.side(rest)
-        call = Call(words[1], words[2], root, op, sent, got)
-        return int(words[0]), self.shared.setdefault(call, call)
+        return int(words[0]), Call(words[1], words[2], root, op, sent, got)
 
     def side(self, word):
         if word.endswith(";"):
@@ -142,7 +212,7 @@ class Record:
     def type(self, number):
         return self.types[int(number)] if int(number) >= 0 else NO_TYPE
 
-    def read_other(self, words, place, thread, remarks):
+    def read_other(self, words, place, thread, remarks, offset):
         """A line that isn't a collective call; returns the remarks that wait for the next one."""
         word = words[0]
         if word == "place":
@@ -163,9 +233,13 @@ class Record:
         elif word == "refused":
             self.refuse(place, thread, words[1], words[2:] == ["unmade"])
         elif word == "tested":
-            self.tests[int(words[1])].done = True
+            self.note_done(self.tests.pop(int(words[1])))
         elif word == "unsure":
             self.unsure = True
+        elif word == "class":
+            self.rows[int(words[1])] = Row(words[2], self.contexts[int(words[3])].key, int(words[4]), int(words[5]))
+        elif word == "left":
+            self.left.append(self.commands.messages[len(self.commands.messages) - int(words[1])])
         elif word == "open":
             self.opened.append(int(words[1]))
         elif word == "abort":
@@ -174,40 +248,51 @@ class Record:
             self.ended = True
             self.keep(remarks, place, thread)
             return []
-        elif word in ("start", "wait", "waitall", "waitany", "waitsome", "test", "free"):
-            self.read_command(words, place, thread, remarks)
+        elif word in ("start", "test", "free"):
+            self.read_command(words, place, thread, remarks, offset)
             return []
         return remarks
 
-    def read_command(self, words, place, thread, remarks):
-        command = Command(place, thread, remarks, words[0])
+    def read_command(self, words, place, thread, remarks, offset):
+        number = int(words[1])
+        line = [words[0].encode(), words[1].encode()]
         if words[0] == "start":
-            command.numbers, command.gift = [int(words[1])], words[2:]
-        else:
-            command.numbers = [int(it) for it in words[1:]]
-        if words[0] == "test":
-            self.tests[command.numbers[0]] = command
-        self.callers.add(thread)
-        self.commands.append(command)
+            self.starts[number] += 1
+        elif words[0] == "test":
+            self.tests[number] = len(self.commands)
+        self.read_wait(line, place, thread, remarks, self.kinds_at(place, thread), offset)
+
+    def note_done(self, position):
+        """Says of a test that it completed its request."""
+        commands = self.commands
+        kind = commands.kinds[commands.codes[position]]
+        if kind.done_code is None:
+            done = Kind(kind.place, kind.thread, kind.remarks, kind.word, relative=kind.relative)
+            done.is_done = True
+            kind.done_code = done.done_code = commands.add_kind(done)
+        commands.codes[position] = kind.done_code
 
     def refuse(self, place, thread, error, is_unmade):
         """The library gave back an error of the last collective that a thread has called at a place. One that is unmade took no place in the
         order of its context, and stands in a text as a remark."""
-        for number in range(len(self.commands) - 1, -1, -1):
-            command = self.commands[number]
-            if command.call and (command.place, command.thread) == (place, thread):
-                command.refused = error
-                self.refused.append(command)
-                if is_unmade and self.calls[command.key][-1] is command:
-                    self.calls[command.key].pop()
-                    remark = "# the library refused MPI_" + command.call.name + " for its arguments here"
-                    self.commands[number] = Command(place, thread, command.remarks + [remark], None)
+        commands = self.commands
+        for position in range(len(commands) - 1, -1, -1):
+            kind = commands.kinds[commands.codes[position]]
+            if kind.call and (kind.place, kind.thread) == (place, thread):
+                commands.refused[position] = error
+                if len(self.refused) < MOST_REFUSED:
+                    self.refused.append(commands[position])
+                calls = self.calls[kind.key]
+                if is_unmade and calls.positions[-1] == position:
+                    calls.pop()
+                    remark = f"# the library refused MPI_{kind.call.name} for its arguments here"
+                    commands.codes[position] = commands.add_kind(Kind(place, thread, kind.remarks + (remark,), None))
                 return
 
     def keep(self, remarks, place, thread):
         """Remarks after which no command stands."""
         if remarks:
-            self.commands.append(Command(place, thread, remarks, None))
+            self.commands.add(self.commands.add_kind(Kind(place, thread, tuple(remarks), None)), len(self.commands.requests), 0)
 
     @staticmethod
     def type_run(word):
@@ -223,14 +308,24 @@ class Record:
         return Operation("user", int(words[1]), words[2] != "0", int(words[4], 16), module if module != "?" else None)
 
 
-def read_records(folder):
+def silent(words):
+    """Shows no progress."""
+
+
+def read_records(folder, progress=silent):
+    """The records of a folder, by rank. PROGRESS is told what is read."""
     if not os.path.isdir(folder):
         raise Unreadable(f"{folder}: no such folder")
     names = [name for name in os.listdir(folder) if re.fullmatch(r"rank\.\d+", name)]
     if not names:
         raise Unreadable(f"{folder}: no records here: was the program started with the recorder, and with RECORD_DIR={folder}?")
-    shared = {}
-    records = {record.rank: record for record in (Record(os.path.join(folder, name), shared) for name in names)}
+    shared = Shared()
+    records = {}
+    for number, name in enumerate(sorted(names, key=lambda it: int(it[5:]))):
+        path = os.path.join(folder, name)
+        progress(f"reads {path}, {number + 1} of {len(names)}")
+        record = Record(path, shared)
+        records[record.rank] = record
     newest = max(record.run for record in records.values())
     for record in records.values():
         if record.run != newest:

@@ -1,6 +1,7 @@
 """What is reported of a folder of records: findings in their order, as lines for a reader or as JSON."""
 
 import collections
+import itertools
 import json
 import os
 import tempfile
@@ -9,8 +10,9 @@ import text_places
 from agreement import call_name, call_words
 from differences import Contexts, Judge, difference_calls, difference_lines
 from job_text import MOST_RANKS, Job, why_not_judged
-from records import Places, Unreadable, rank_words, read_records
-from stalls import DOUBT, UNDECIDED, Stalls
+from messages import MOST_STEPS, STALLS, Messages, MessageStalls
+from records import Places, Unreadable, rank_words, read_records, silent
+from stalls import DOUBT, UNDECIDED, find_stalls
 from standing import Standings, calls_under_way, ranks_unseen, read_nows
 
 # How many faults are reported whole, and how many calls before a fault its text has.
@@ -40,17 +42,19 @@ class Finding:
 class Report:
     """What is reported of a folder of records. PROGRAM is colljob."""
 
-    def __init__(self, folder, program):
-        self.folder, self.program = folder, program
+    def __init__(self, folder, program, progress=silent):
+        self.folder, self.program, self.progress = folder, program, progress
         before = calls_under_way(folder)
-        self.records = read_records(folder)
+        self.records = read_records(folder, progress)
+        progress("compares the calls of the ranks")
         self.places = Places(self.records)
         self.contexts = Contexts(self.records, self.places)
         nows = read_nows(folder, self.records)
         self.judge = Judge(self.records, self.contexts, ranks_unseen(nows))
         self.standings = Standings(nows, self.records, self.contexts, self.places, self.judge, before)
+        self.messages, self.run = Messages(self.records, self.contexts, self.places, nows), None
         self.size = next(iter(self.records.values())).size
-        self.findings, self.missing, self.text_path, self.has_circle = [], False, None, False
+        self.findings, self.missing, self.text_path, self.has_cycle = [], False, None, False
         self.status = self.find()
 
     def text(self):
@@ -77,8 +81,11 @@ class Report:
         """Finds all that is reported, and gives the status."""
         self.find_what_is_there()
         faults = self.find_differences()
-        if self.find_circle() or faults:
+        self.progress("looks for ranks that wait for one another")
+        misfits = self.find_misfits()
+        if self.find_cycle() or faults or misfits:
             return FAULT
+        self.find_lost()
         not_judged = why_not_judged(self.records, self.judge.unseen)
         if not_judged:
             self.say("verdict", f"no fault found in what is there; stalls aren't judged: {not_judged}")
@@ -190,21 +197,35 @@ class Report:
                 last = why
         raise Unreadable(f"{path}: {last.strerror}")
 
+    # Messages
+
+    def find_misfits(self):
+        """Whether messages don't fit their receives."""
+        found = list(itertools.islice(self.messages.type_faults(), MOST_SHOWN))
+        for words, lines, ranks in found:
+            self.say("fault", words, lines, ranks=ranks)
+        return bool(found)
+
+    def find_lost(self):
+        """Messages that nobody receives, and such that no call completes."""
+        for words, lines, ranks in itertools.islice(itertools.chain(self.messages.lost(), self.messages.left()), 2 * MOST_SHOWN):
+            self.lack(words, lines, "warning", ranks=ranks)
+
     # Ranks that wait for one another
 
-    def find_circle(self):
+    def find_cycle(self):
         """Whether ranks surely wait for one another."""
         blocked = self.standings.blocked()
         if blocked:
-            lines, ranks = self.standings.circle_lines(blocked)
+            lines, ranks = self.standings.cycle_lines(blocked)
             silent = self.standings.may_have_threads(ranks)
             waits = {str(rank): those for rank, those in blocked.items()}
-            self.has_circle = not silent
+            self.has_cycle = not silent
             if silent:
                 words = f"not sure: with MPI_THREAD_MULTIPLE a thread of {rank_words(silent)} that hasn't called MPI yet may end this:"
                 self.lack(words, [f"  {line}" for line in lines], "not sure", ranks=ranks, waits=waits)
             else:
-                self.say("circle", lines[0], lines[1:], ranks=ranks, waits=waits)
+                self.say("cycle", lines[0], lines[1:], ranks=ranks, waits=waits)
             return not silent
         waited = self.standings.waited_for()
         if waited:
@@ -215,8 +236,7 @@ class Report:
 
     def find_stalls(self):
         """Whether the collective calls let ranks wait for one another, in the words of colljob where a text of them shows it."""
-        stalls = Stalls(self.records, self.contexts)
-        wide = stalls if stalls.stuck else Stalls(self.records, self.contexts, True)
+        stalls, wide = find_stalls(self.records, self.contexts)
         notes = [] if stalls.stuck or not wide.stuck else [DOUBT]
         job = Job(self.records, self.contexts, self.places, self.judge, notes=self.standings.limits() + notes)
         lines = job.fitting_text(0)
@@ -228,7 +248,9 @@ class Report:
         if stalls.stuck:
             self.say_stall(stalls, verdict, whole)
             return FAULT
-        chosen = any(command.word in ("waitany", "waitsome") for record in self.records.values() for command in record.commands)
+        if self.find_unsafe():
+            return FAULT
+        chosen = any(record.commands.words() & {"waitany", "waitsome"} for record in self.records.values())
         if chosen and not (whole and verdict and not verdict.unknown):
             self.lack("which of several requests a library completes first is its choice: whether another choice lets ranks wait for one another isn't known")
         if wide.stuck:
@@ -236,6 +258,20 @@ class Report:
         elif whole and verdict and verdict.stalls:
             self.lack(f"not sure: {self.text_path} lets a library stall, by colljob explain --strict, but only one that doesn't complete the same requests as this one: what the program would call then isn't known", (), "not sure")
         return self.say_no_fault()
+
+    def find_unsafe(self):
+        """Whether ranks wait for one another where sends wait for their receives."""
+        if self.messages.why or not self.messages.any_there():
+            return False
+        self.run = MessageStalls(self.records, self.contexts, self.messages)
+        if self.run.stuck:
+            self.say("stall", STALLS, self.run.lines(self.places), waits={str(rank): those for rank, those in self.run.waits().items()})
+        return bool(self.run.stuck)
+
+    def where_stuck(self, rank):
+        """Where a rank can't go on in a run that stalls, in short."""
+        command = self.run.stuck[rank][0] if self.run and rank in self.run.stuck else None
+        return self.places.name(self.records[rank], command.place) or "" if command else ""
 
     def ask(self, job, lines):
         """What colljob says of a text, or None where there is none or no colljob."""
@@ -249,19 +285,35 @@ class Report:
             return None
 
     def say_stall(self, stalls, verdict, whole):
+        waits, self.run = {str(rank): those for rank, those in stalls.waits().items()}, stalls
         added = "with what these ranks never reached added as it must be if all agree, " if self.standings.open else ""
         if whole and verdict and verdict.stalls:
-            self.say("stall", f"{added}colljob explain says of {self.text_path}:", verdict.lines)
+            self.say("stall", f"{added}colljob explain says of {self.text_path}:", verdict.lines, waits=waits)
         else:
-            self.say("stall", f"warning: {added}a library whose collectives wait for all their members stalls:", stalls.lines(self.places))
+            self.say("stall", f"warning: {added}a library whose collectives wait for all their members stalls:", stalls.lines(self.places), waits=waits)
 
     def say_no_fault(self):
         if self.missing:
             self.say("verdict", "no fault found in what is there")
             return OPEN
         head = "no fault beside what is warned of" if self.judge.warnings() else "no fault"
-        if self.standings.waits_elsewhere():
-            self.say("verdict", f"{head}: the collective calls agree, and by themselves let no run stall; what else the ranks wait for isn't judged for that")
+        limit = self.limit_of_messages()
+        if limit:
+            self.say("verdict", f"{head}: the collective calls agree, and by themselves let no run stall; {limit} for that")
+        elif self.messages.any_there():
+            self.say("verdict", f"{head}: the collective calls and the messages agree, and let no run stall, also where sends wait for their receives")
         else:
             self.say("verdict", f"{head}: the collective calls agree, and let no run stall")
         return CLEAN
+
+    def limit_of_messages(self):
+        """Why the whole isn't judged for stalls, or None."""
+        if not self.standings.waits_elsewhere():
+            return None
+        if self.messages.why:
+            return f"messages aren't judged, since {self.messages.why},"
+        if self.standings.calls_elsewhere() or not self.messages.any_there():
+            return "what else the ranks wait for isn't judged"
+        if self.messages.has_any():
+            return f"messages that {rank_words(self.messages.has_any())} may receive from any rank or with any tag aren't judged"
+        return f"messages after the first {MOST_STEPS} calls aren't judged" if self.run.is_cut() else None

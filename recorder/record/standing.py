@@ -131,6 +131,10 @@ class Standings:
         """Whether ranks wait for one another also by what isn't a collective."""
         return any(now.messages or now.elsewhere or not now.there for now in self.now.values())
 
+    def calls_elsewhere(self):
+        """Whether they do so by what is neither a collective nor a message."""
+        return any(now.elsewhere or not now.there for now in self.now.values())
+
     def unseen(self):
         return ranks_unseen(self.now)
 
@@ -319,12 +323,24 @@ class Standings:
         if awaited.kind == RECEIVE and awaited.index >= 0:
             sent = self.sent(rank, awaited)
             if sent is not None and sent <= awaited.index:
-                return f" (rank {awaited.rank} has sent {sent or 'none'} such, and rank {rank} has called {awaited.index} such receives before)" if awaited.index else f" (rank {awaited.rank} has sent none such)"
+                before = f" such, and rank {rank} has called {awaited.index} such receives before" if awaited.index else " such"
+                return f" (rank {awaited.rank} has sent {sent or 'none'}{before}{self.other_tags(rank, awaited)})"
         if awaited.kind == SEND and not awaited.form:
             called = self.receives(rank, awaited)
             if called is not None and called <= awaited.index:
                 return f" (rank {awaited.rank} has called {called or 'no'} receive{'s' if called > 1 else ''} for it)"
         return ""
+
+    def other_tags(self, rank, awaited):
+        """What the awaited rank has sent with other tags and nobody receives: the tag may be the mistake."""
+        key = self.key(rank, awaited.context)
+        numbers = self.numbers(key, awaited.rank)
+        if not numbers or not self.now[rank].counted:
+            return ""
+        sent = {tag: calls for (kind, context, peer, tag), calls in self.now[awaited.rank].messages.items() if (kind, context, peer) == (SEND, numbers[awaited.rank], rank)}
+        took = {tag: [self.messages(rank, RECEIVE, key, peer, it) or 0 for peer in (awaited.rank, ANY) for it in (tag, -1)] for tag in sent}
+        free = [(tag, calls - sum(took[tag])) for tag, calls in sorted(sent.items()) if tag != awaited.tag and calls > sum(took[tag])]
+        return "".join(f"; it has sent {calls} with tag {tag} that nobody receives" for tag, calls in free[:2])
 
     def collective_words(self, rank, awaited, itself):
         key, command = self.key(rank, awaited.context), self.command(rank, awaited)
@@ -392,18 +408,18 @@ class Standings:
                 alike[without_seconds(words)].append((seconds_of(words), rank, words))
         return [f"{rank_words([rank for _, rank, _ in those])}: {min(those)[2]}" for those in alike.values()]
 
-    def circle_lines(self, blocked):
-        """The ranks of a circle, or what ends at ranks that came to MPI_Finalize."""
+    def cycle_lines(self, blocked):
+        """The ranks of a cycle, or what ends at ranks that came to MPI_Finalize."""
         rank, seen = min(blocked), []
         while rank in blocked and rank not in seen:
             seen.append(rank)
             following = blocked[rank]
             rank = next((it for it in following if it in blocked), following[0] if following else None)
         if rank in seen:
-            circle = seen[seen.index(rank):]
-            words = [f"rank {it} waits for rank {after}" for it, after in zip(circle, circle[1:] + circle[:1])]
-            head = "a circle" if len(circle) > 1 else "a wait for itself"
-            return [f"{head}: {', '.join(words)}"] + [f"  rank {it}: {line}" for it in circle for line in self.rank_lines(it)], circle
+            cycle = seen[seen.index(rank):]
+            words = [f"rank {it} waits for rank {after}" for it, after in zip(cycle, cycle[1:] + cycle[:1])]
+            head = "a cycle" if len(cycle) > 1 else "a wait for itself"
+            return [f"{head}: {', '.join(words)}"] + [f"  rank {it}: {line}" for it in cycle for line in self.rank_lines(it)], cycle
         words = [f"rank {it} waits for rank {after}" for it, after in zip(seen, seen[1:] + [rank])]
         return [f"a wait without end: {', '.join(words)}, which has called MPI_Finalize"] + [f"  rank {it}: {line}" for it in seen for line in self.rank_lines(it)], seen
 

@@ -98,6 +98,7 @@ class Watch:
 
     def __init__(self, run, folder, hang, timeout, colljob, teller):
         self.run, self.folder, self.hang, self.timeout, self.colljob, self.teller = run, folder, hang, timeout, colljob, teller
+        self.shown = min(os.path.relpath(folder), folder, key=len)
         self.begun, self.stood, self.judged, self.pause, self.has_told = time.monotonic(), Stood(), None, hang, False
 
     def wait(self):
@@ -136,10 +137,10 @@ class Watch:
         self.pause = self.pause * BACKOFF if self.judged and self.judged[0] == those else self.hang
         self.judged = those, time.monotonic() + self.pause
         try:
-            report = Report(self.folder, self.colljob)
+            report = Report(self.shown, self.colljob)
         except Unreadable:
             return
-        if report.status == FAULT and (report.has_circle or Ranks(self.folder).all_stand()):
+        if report.status == FAULT and (report.has_cycle or Ranks(self.folder).all_stand()):
             raise Ended(f"{ranks.words(self.stood.longest(self.hang))} for {self.hang:g} seconds and can't go on, so the run was ended", report)
 
 

@@ -13,10 +13,10 @@ def wrong(ranks, *wants, short=False):
 
 
 def right(ranks, *wants, short=False, status=0):
-    return Program(ranks, wants or ("no fault: the collective calls agree",), status, short)
+    return Program(ranks, wants or ("no fault: the collective calls ",), status, short)
 
 
-CIRCLE = "a circle: rank 0 waits for rank 1, rank 1 waits for rank 0"
+CYCLE = "a cycle: rank 0 waits for rank 1, rank 1 waits for rank 0"
 PROGRAMS = {
     "other_root": wrong(4, "call 1 on MPI_COMM_WORLD: the roots differ", "rank 1: MPI_Bcast(sends 4 MPI_INT, root 1), {A}".replace("sends ", ""), short=True),
     "other_count": wrong(4, "the counts differ", "rank 2: MPI_Allreduce(3 MPI_INT, MPI_SUM), {A}"),
@@ -40,30 +40,30 @@ PROGRAMS = {
     "shifted_dup": wrong(2, "the calls differ", "rank 0: MPI_Ibarrier, {B}", "rank 1: MPI_Comm_dup, {A}", "not judged: 1 communicators, windows or files that were made after"),
     "skipped_barrier": wrong(3, "call 2 on MPI_COMM_WORLD: rank 1 comes to MPI_Finalize without it", "ranks 0, 2: MPI_Barrier, {A}"),
     "skipped_split": wrong(3, "the calls differ", "rank 0: MPI_Barrier, {B}", "ranks 1, 2: MPI_Comm_split, {A}", short=True),
-    "skipped_dup": wrong(2, CIRCLE, "rank 0: in MPI_Recv, {A}", "rank 1: in MPI_Comm_dup, {B}", short=True),
+    "skipped_dup": wrong(2, CYCLE, "rank 0: in MPI_Recv, {A}", "rank 1: in MPI_Comm_dup, {B}", short=True),
     "skipped_idup": wrong(2, "the calls differ", "rank 0: MPI_Barrier, {A}", "rank 1: MPI_Comm_idup, {B}"),
-    "skipped_cart": wrong(2, CIRCLE, "rank 1: in MPI_Cart_create, {B}"),
+    "skipped_cart": wrong(2, CYCLE, "rank 1: in MPI_Cart_create, {B}"),
     "free_meets_barrier": wrong(2, "the calls differ", "rank 0: MPI_Comm_free, {A}", "rank 1: MPI_Barrier, {B}"),
-    "group_lacks_one": wrong(2, CIRCLE, "rank 1: in MPI_Comm_create_group, {B}"),
-    "crossed_communicators": wrong(2, CIRCLE, "rank 0: in MPI_Allreduce, {A}", "rank 1: in MPI_Allreduce, {A}", short=True),
-    "crossed_waits": wrong(2, CIRCLE, "rank 0: in MPI_Wait, {B}", "for MPI_Ibarrier, {A}"),
+    "group_lacks_one": wrong(2, CYCLE, "rank 1: in MPI_Comm_create_group, {B}"),
+    "crossed_communicators": wrong(2, CYCLE, "rank 0: in MPI_Allreduce, {A}", "rank 1: in MPI_Allreduce, {A}", short=True),
+    "crossed_waits": wrong(2, CYCLE, "rank 0: in MPI_Wait, {B}", "for MPI_Ibarrier, {A}"),
     "skipped_write": wrong(2, "the calls differ", "rank 0: MPI_File_close, {B}", "rank 1: MPI_File_write_at_all, {A}"),
     "other_write": wrong(2, "the calls differ", "rank 0: MPI_File_write_at_all, {A}", "rank 1: MPI_File_write_all, {B}"),
-    "skipped_open": wrong(2, CIRCLE, "rank 0: in MPI_Recv, {A}", "rank 1: in MPI_File_open"),
+    "skipped_open": wrong(2, CYCLE, "rank 0: in MPI_Recv, {A}", "rank 1: in MPI_File_open"),
     "skipped_fence": wrong(2, "the calls differ", "rank 0: MPI_Win_free, {A}", "rank 1: MPI_Win_fence, {B}", short=True),
-    "fence_meets_receive": wrong(2, CIRCLE, "rank 0: in MPI_Recv, {A}", "rank 1: in MPI_Win_fence, {B}"),
+    "fence_meets_receive": wrong(2, CYCLE, "rank 0: in MPI_Recv, {A}", "rank 1: in MPI_Win_fence, {B}"),
     "skipped_window": wrong(2, "the calls differ", "rank 0: MPI_Allreduce(1 MPI_INT, MPI_SUM), {A}", "rank 1: MPI_Win_create, {B}"),
-    "receive_circle": wrong(2, CIRCLE, "rank 0: in MPI_Recv, {A}", "from rank 1, tag 6", short=True),
-    "receive_ring": wrong(4, "a circle: rank 0 waits for rank 1, rank 1 waits for rank 2, rank 2 waits for rank 3, rank 3 waits for rank 0", "{A}"),
-    "other_tag": wrong(2, CIRCLE, "rank 0: in MPI_Recv, {A}", "from rank 1, tag 6 (rank 1 has sent none such)", "rank 1: in MPI_Barrier, {B}"),
-    "other_communicator": wrong(2, CIRCLE, "rank 0: in MPI_Recv, {A}", "from rank 1, tag 5 (rank 1 has sent none such)"),
-    "send_circle": wrong(2, CIRCLE, "rank 0: in MPI_Send, {A}", "to rank 1, tag 4"),
-    "receive_meets_barrier": wrong(2, CIRCLE, "rank 0: in MPI_Recv, {A}", "rank 1: in MPI_Barrier, {B}", "rank 0 has not called it"),
+    "receive_cycle": wrong(2, CYCLE, "rank 0: in MPI_Recv, {A}", "from rank 1, tag 6", short=True),
+    "receive_ring": wrong(4, "a cycle: rank 0 waits for rank 1, rank 1 waits for rank 2, rank 2 waits for rank 3, rank 3 waits for rank 0", "{A}"),
+    "other_tag": wrong(2, CYCLE, "rank 0: in MPI_Recv, {A}", "from rank 1, tag 6 (rank 1 has sent none such; it has sent 1 with tag 5 that nobody receives)", "rank 1: in MPI_Barrier, {B}"),
+    "other_communicator": wrong(2, CYCLE, "rank 0: in MPI_Recv, {A}", "from rank 1, tag 5 (rank 1 has sent none such)"),
+    "send_cycle": wrong(2, CYCLE, "rank 0: in MPI_Send, {A}", "to rank 1, tag 4"),
+    "receive_meets_barrier": wrong(2, CYCLE, "rank 0: in MPI_Recv, {A}", "rank 1: in MPI_Barrier, {B}", "rank 0 has not called it"),
     "receive_of_finalized": wrong(2, "a wait without end: rank 0 waits for rank 1, which has called MPI_Finalize", "rank 0: in MPI_Recv, {A}", short=True),
-    "waitall_of_receives": wrong(2, CIRCLE, "rank 0: in MPI_Waitall, {B}", "a receive, {A}, from rank 1, tag 2"),
-    "probe_of_nothing": wrong(2, "rank 0: in MPI_Probe, {A}", CIRCLE),
-    "receive_of_any": wrong(2, CIRCLE, "from any rank, tag 1"),
-    "wait_meets_receive": wrong(2, CIRCLE, "rank 1: in MPI_Wait, {B}"),
+    "waitall_of_receives": wrong(2, CYCLE, "rank 0: in MPI_Waitall, {B}", "a receive, {A}, from rank 1, tag 2"),
+    "probe_of_nothing": wrong(2, "rank 0: in MPI_Probe, {A}", CYCLE),
+    "receive_of_any": wrong(2, CYCLE, "from any rank, tag 1"),
+    "wait_meets_receive": wrong(2, CYCLE, "rank 1: in MPI_Wait, {B}"),
     "endless_loop": Program(3, ("rank 1: in no MPI call", "ranks 0, 2", "others wait for rank 1", "rank 1 has not called it"), 3, True),
     "endless_tests": Program(2, ("rank 0: in MPI_Recv, {A}", "no fault found in what is there"), 3, False),
     "calls_abort": Program(3, ("rank 1: called MPI_Abort with 3, {A}", "no fault found in what is there"), 3, False),
@@ -96,13 +96,13 @@ PROGRAMS = {
     "ended_among_pairs": right(4, "no fault found in what is there", status=3, short=True),
     "hangs_in_finalize": Program(2, ("called MPI_Finalize and didn't come out of it:", "in MPI_Finalize", "no fault found in what is there"), 3, True),
     "merge_meets_receive": Program(2, ("rank 0: in MPI_Recv, {A}", "rank 1: in MPI_Intercomm_merge, {B}", "no fault found in what is there"), 3, False),
-    "detach_of_unreceived": Program(2, ("rank 0: in MPI_Buffer_detach, {A}", "rank 1: in MPI_Recv, {B}", "from rank 0, tag 5 (rank 0 has sent none such)"), 3, False),
-    "lock_circle": Program(2, ("in MPI_Win_", "no fault found in what is there"), 3, False),
+    "detach_of_unreceived": Program(2, ("rank 0: in MPI_Buffer_detach, {A}", "rank 1: in MPI_Recv, {B}", "from rank 0, tag 5 (rank 0 has sent none such; it has sent 1 with tag 4 that nobody receives)"), 3, False),
+    "lock_cycle": Program(2, ("in MPI_Win_", "no fault found in what is there"), 3, False),
     "start_without_post": Program(2, ("rank 0: in MPI_Win_", "rank 1: in MPI_Recv, {A}", "no fault found in what is there"), 3, False),
-    "mprobe_of_nothing": wrong(2, "rank 0: in MPI_Mprobe, {A}", CIRCLE),
-    "receive_of_any_tag": wrong(2, CIRCLE, "rank 0: in MPI_Recv, {A}", "from rank 1, any tag", "rank 1: in MPI_Barrier, {B}", short=True),
-    "one_receive_more": wrong(3, CIRCLE, "rank 0: in MPI_Recv, {A}", "from any rank, tag 1"),
-    "circle_of_kinds": wrong(3, "a circle: rank 0 waits for rank 1, rank 1 waits for rank 2, rank 2 waits for rank 0", "rank 0: in MPI_Recv, {A}", "rank 2: in MPI_Ssend, {B}"),
+    "mprobe_of_nothing": wrong(2, "rank 0: in MPI_Mprobe, {A}", CYCLE),
+    "receive_of_any_tag": wrong(2, CYCLE, "rank 0: in MPI_Recv, {A}", "from rank 1, any tag", "rank 1: in MPI_Barrier, {B}", short=True),
+    "one_receive_more": wrong(3, CYCLE, "rank 0: in MPI_Recv, {A}", "from any rank, tag 1"),
+    "cycle_of_kinds": wrong(3, "a cycle: rank 0 waits for rank 1, rank 1 waits for rank 2, rank 2 waits for rank 0", "rank 0: in MPI_Recv, {A}", "rank 2: in MPI_Ssend, {B}"),
     "leaves_without_finalize": Program(3, ("rank 1: in no MPI call that is followed", "no fault found in what is there"), 3, False),
     "never_completed": Program(2, ("warning: rank 0 called MPI_Finalize, and no call was seen to complete MPI_Ibarrier, {A}", "warning: rank 1"), 3, True),
     "dup_meets_split": wrong(2, "the calls differ", "rank 0: MPI_Comm_dup, {A}", "rank 1: MPI_Comm_split, {B}"),
@@ -110,7 +110,7 @@ PROGRAMS = {
     "other_large_count": wrong(2, "the counts differ"),
     "long_meets_int64": Program(2, ("warning: call 1 on MPI_COMM_WORLD: the types have different names", "no fault beside what is warned of"), 0, False),
     "late_stall": wrong(2, "a library whose collectives wait for all their members stalls", "rank 0: MPI_Bcast(1 MPI_INT, root 0), {A}: call 5002 on MPI_COMM_WORLD waits for rank 1", "rank 1: MPI_Bcast(1 MPI_INT, root 1), {B}"),
-    "unsafe_send_after_gather": Program(2, ("by themselves let no run stall; what else the ranks wait for isn't judged for that",), 0, False),
+    "unsafe_send_after_gather": wrong(2, "whose collectives for all their members, stalls:", "rank 1: MPI_Gather(sends 1 MPI_INT, root 0), "),
     "right_packed": right(2),
     "right_jump": right(2, short=True),
     "right_freed_type": right(2),
@@ -179,14 +179,31 @@ PROGRAMS.update({
     "ended_before_callback": right(2, "rank 0: in MPI_Recv", "called MPI_Finalize and didn't come out of it", "no fault found in what is there", status=3),
     "freed_while_active": wrong(2, "not startable", "rank 0, {A}: free 0"),
     "neighbour_forms": wrong(2, "a blocking and a nonblocking call never match", "rank 0: MPI_Neighbor_allgather, {A}", "rank 1: MPI_Ineighbor_allgather, {B}"),
-    "idup_meets_receive": wrong(2, CIRCLE, "rank 0: in MPI_Wait", "for MPI_Comm_idup, {A}", "rank 1: in MPI_Recv, {B}"),
+    "idup_meets_receive": wrong(2, CYCLE, "rank 0: in MPI_Wait", "for MPI_Comm_idup, {A}", "rank 1: in MPI_Recv, {B}"),
     "counts_of_four": wrong(2, "rank 1 sends 2 MPI_INT to rank 0, which receives 1 MPI_INT"),
     "in_place_count": wrong(3, "rank 0 sends 2 MPI_INT to rank 1, which receives 1 MPI_INT", "rank 0: MPI_Allgather(in place, receives 2 MPI_INT), {A}", "rank 1: MPI_Allgather(sends 1 MPI_INT, receives 1 MPI_INT), {B}"),
     "threads_other_root": wrong(2, "call 1 on the communicator of MPI_Comm_dup", "the roots differ", "rank 0: MPI_Bcast(1 MPI_INT, root 0), lawful.c:"),
 })
 
+STALLS = "warning: a library whose sends wait for their receives, as for longer rows, and whose collectives for all their members, stalls:"
+AGREE = "no fault: the collective calls and the messages agree, and let no run stall, also where sends wait for their receives"
+PROGRAMS.update({
+    "message_types": wrong(2, "fault: message 1 of rank 0 to rank 1 with tag 1: what is sent and what is received differ", "rank 0: sends 2 MPI_INT, {A}", "rank 1: receives 1 MPI_DOUBLE, {B}", short=True),
+    "message_type_of_start": wrong(2, "fault: message 5 of rank 0 to rank 1 with tag 7", "rank 0: sends 1 MPI_FLOAT, ", "rank 1: receives 4 MPI_INT, {B}"),
+    "message_types_of_any": wrong(2, "fault: message 1 of rank 0 to rank 1 with tag 1", "rank 0: sends 2 MPI_INT, {A}", "rank 1: receives 1 MPI_DOUBLE, {B}"),
+    "lost_message": Program(2, ("warning: rank 0 sent 2 messages with tag 4 to rank 1 that nobody received, {A}", "no fault found in what is there"), 3, True),
+    "receive_never_completed": Program(2, ("warning: rank 0 called MPI_Finalize, and no call was seen to complete a receive from rank 1, tag 3, {A}", "warning: rank 1 sent a message with tag 2 to rank 0 that nobody received, {B}", "rank 0 awaited one with tag 3 from rank 1 that never came"), 3, False),
+    "sends_never_completed": Program(2, ("warning: rank 0 called MPI_Finalize, and no call was seen to complete a send to rank 1, tag 3, {A}, and 1 more", "no fault found in what is there"), 3, False),
+    "unsafe_sends": wrong(2, STALLS, "rank 0: a send to rank 1, tag 1, {A}: waits for rank 1", "rank 1: a send to rank 0, tag 1, {A}: waits for rank 0", short=True),
+    "unsafe_waits_for_sends": wrong(2, STALLS, "rank 0: a wait, {B}, for a send to rank 1, tag 1, {A}: waits for rank 1"),
+    "unsafe_send_before_barrier": wrong(2, STALLS, "rank 0: a send to rank 1, tag 1, {A}: waits for rank 1", "rank 1: MPI_Barrier, {B}: call 1 on MPI_COMM_WORLD waits for rank 0"),
+    "unsafe_ring": wrong(3, STALLS, "rank 0: a send to rank 1, tag 1, {A}: waits for rank 1", "rank 2: a send to rank 0, tag 1, {A}: waits for rank 0"),
+    "right_message_kinds": right(2, "messages that ranks 0, 1 may receive from any rank or with any tag aren't judged for that", short=True),
+    "right_halo": right(4, AGREE),
+})
+
 # The files of the programs, each with the first of its own.
-SOURCES = {"programs.c": "other_root", "unusual.c": "hangs_in_finalize", "doubtful.c": "ended_after_cancel", "lawful.c": "right_freed_before_wait"}
+SOURCES = {"programs.c": "other_root", "unusual.c": "hangs_in_finalize", "doubtful.c": "ended_after_cancel", "lawful.c": "right_freed_before_wait", "messages.c": "message_types"}
 
 # MPICH waits in the first, and opens no port here.
 OPEN_MPI_ONLY = {"unsafe_empty_waits", "ended_in_accept", "right_connected"}

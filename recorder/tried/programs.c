@@ -259,7 +259,7 @@ static void skipped_window(void) {
 
 /* Messages */
 
-static void receive_circle(void) {
+static void receive_cycle(void) {
     if (rank < 2)
         MPI_Recv(&sum, 1, MPI_INT, 1 - rank, 6, world, MPI_STATUS_IGNORE); /* A */
 }
@@ -286,7 +286,7 @@ static void other_communicator(void) {
     MPI_Barrier(twin);
 }
 
-static void send_circle(void) {
+static void send_cycle(void) {
     int *much = calloc(LARGE, sizeof *much);
     if (rank < 2) {
         MPI_Send(much, LARGE, MPI_INT, 1 - rank, 4, world); /* A */
@@ -665,8 +665,8 @@ const struct program programs[] = {
     PROGRAM(reduce_scatter_counts), PROGRAM(neighbours_meet_barrier), PROGRAM(starts_differ), PROGRAM(shifted_dup), PROGRAM(skipped_barrier), PROGRAM(skipped_split),
     PROGRAM(skipped_dup), PROGRAM(skipped_idup), PROGRAM(skipped_cart), PROGRAM(free_meets_barrier), PROGRAM(group_lacks_one),
     PROGRAM(crossed_communicators), PROGRAM(crossed_waits), PROGRAM(skipped_write), PROGRAM(other_write), PROGRAM(skipped_open), PROGRAM(skipped_fence),
-    PROGRAM(fence_meets_receive), PROGRAM(skipped_window), PROGRAM(receive_circle), PROGRAM(receive_ring), PROGRAM(other_tag),
-    PROGRAM(other_communicator), PROGRAM(send_circle), PROGRAM(receive_meets_barrier), PROGRAM(receive_of_finalized), PROGRAM(waitall_of_receives),
+    PROGRAM(fence_meets_receive), PROGRAM(skipped_window), PROGRAM(receive_cycle), PROGRAM(receive_ring), PROGRAM(other_tag),
+    PROGRAM(other_communicator), PROGRAM(send_cycle), PROGRAM(receive_meets_barrier), PROGRAM(receive_of_finalized), PROGRAM(waitall_of_receives),
     PROGRAM(probe_of_nothing), PROGRAM(receive_of_any), PROGRAM(wait_meets_receive), PROGRAM(endless_loop), PROGRAM(endless_tests),
     PROGRAM(calls_abort), PROGRAM(crashes), PROGRAM(late_fault), PROGRAM(sixty_four_ranks), PROGRAM(large_count), PROGRAM(twentieth_communicator),
     PROGRAM(threads_without_order), PROGRAM(right_blocking), PROGRAM(right_nonblocking), PROGRAM(right_persistent), PROGRAM(right_uneven),

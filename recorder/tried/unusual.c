@@ -47,7 +47,7 @@ static void take_lock(MPI_Win window) {
     MPI_Win_flush(0, window);
 }
 
-static void lock_circle(void) {
+static void lock_cycle(void) {
     MPI_Win first, second;
     MPI_Win_create(row, sizeof row, 1, MPI_INFO_NULL, world, &first);
     MPI_Win_create(other, sizeof other, 1, MPI_INFO_NULL, world, &second);
@@ -96,7 +96,7 @@ static void one_receive_more(void) {
     MPI_Barrier(world); /* B */
 }
 
-static void circle_of_kinds(void) {
+static void cycle_of_kinds(void) {
     MPI_Comm two;
     MPI_Comm_split(world, rank > 0, 0, &two);
     if (rank == 0)
@@ -449,8 +449,8 @@ static void ended_in_a_message(void) {
 }
 
 const struct program programs[] = {
-    PROGRAM(hangs_in_finalize), PROGRAM(merge_meets_receive), PROGRAM(detach_of_unreceived), PROGRAM(lock_circle), PROGRAM(start_without_post),
-    PROGRAM(mprobe_of_nothing), PROGRAM(receive_of_any_tag), PROGRAM(one_receive_more), PROGRAM(circle_of_kinds),
+    PROGRAM(hangs_in_finalize), PROGRAM(merge_meets_receive), PROGRAM(detach_of_unreceived), PROGRAM(lock_cycle), PROGRAM(start_without_post),
+    PROGRAM(mprobe_of_nothing), PROGRAM(receive_of_any_tag), PROGRAM(one_receive_more), PROGRAM(cycle_of_kinds),
     PROGRAM(leaves_without_finalize), PROGRAM(never_completed), PROGRAM(dup_meets_split), PROGRAM(other_window_copy),
     PROGRAM(other_large_count), PROGRAM(long_meets_int64), PROGRAM(late_stall), PROGRAM(unsafe_send_after_gather), PROGRAM(right_packed),
     PROGRAM(right_jump), PROGRAM(right_freed_type), PROGRAM(right_empty_requests), PROGRAM(right_first_of_two), PROGRAM(right_any),

@@ -1,0 +1,290 @@
+"""The page of a report: one file that opens without a network, with what was found, who waits for whom, a timeline and tables. Its fixed part is
+page.html; the data are made here of records, or of the files that wzrun and colljob write."""
+
+import collections
+import json
+import os
+import re
+
+from agreement import call_words
+from records import Unreadable
+from times import Meetings, timed_calls
+
+HERE = os.path.dirname(os.path.abspath(__file__))
+
+TONES = {0: "good", 1: "bad", 3: "open"}
+BAD, OPEN = {"fault", "cycle", "stall"}, {"standing", "open", "not sure", "warning"}
+
+# How many rows the tables have.
+MOST_ROWS = 15
+
+
+def page(data):
+    """The whole page."""
+    with open(os.path.join(HERE, "page.html"), encoding="utf-8") as file:
+        fixed = file.read()
+    # In a script no text may end it.
+    return fixed.replace("@DATA@", json.dumps(data, ensure_ascii=False, separators=(",", ":")).replace("</", "<\\/").replace("<!", "<\\u0021"))
+
+
+def tone_of(kind):
+    return "bad" if kind in BAD else "open" if kind in OPEN else ""
+
+
+def empty_page(title, about, verdict, tone):
+    return {"title": title, "about": about, "verdict": verdict, "tone": tone, "findings": [], "waiting": [], "waits": [], "bars": [], "arrows": [], "tables": []}
+
+
+def numbered(micros):
+    """Microseconds as milliseconds for a table."""
+    return f"{micros / 1000:,.3f}"
+
+
+# Of records
+
+
+def page_of_report(report):
+    """The page of a folder of records."""
+    verdict = next((it.words for it in reversed(report.findings) if it.kind in BAD | {"verdict"}), "")
+    data = empty_page(f"wzrecord: {report.folder}", f"{report.size} ranks, {report.calls():,} collective calls", verdict, TONES[report.status])
+    data["findings"] = [{"words": it.words, "lines": it.lines, "tone": tone_of(it.kind)} for it in report.findings if it.kind != "record"]
+    add_waits(data, report)
+    add_times(data, report)
+    return page(data)
+
+
+def add_waits(data, report):
+    """Who waits for whom: of the first finding that says it."""
+    waits = next((it.fields["waits"] for it in report.findings if it.fields.get("waits")), {})
+    edges = [(int(rank), other) for rank, others in waits.items() for other in others]
+    for rank in sorted({it for edge in edges for it in edge}):
+        # (A rank that is shown in a stall of another library isn't under way.)
+        lines = report.standings.rank_lines(rank) if rank in report.standings.now and rank in report.standings.open else []
+        over = rank in report.records and report.records[rank].ended and str(rank) not in waits
+        words = re.sub(r"^in ", "", lines[0].split(", for ")[0].split(": ")[0]) if lines else "came to MPI_Finalize" if over else report.where_stuck(rank)
+        data["waiting"].append({"rank": rank, "words": words, "over": over})
+    data["waits"] = edges
+
+
+def add_times(data, report):
+    calls, total = timed_calls(report.folder, report.records)
+    if not calls:
+        return
+    if total > len(calls):
+        data["about"] += f"; times are kept of the first and the last calls of each rank, {len(calls):,} of {total:,}"
+    meetings = Meetings(calls, report.records)
+    first = min(it.begun for it in calls)
+    lost = collections.defaultdict(lambda: [0, 0, 0, 0])
+    waited = {}
+    for call in calls:
+        until, last = meetings.waits(call)
+        waited[id(call)] = until, last
+        place = report.places.name(report.records[call.rank], call.place) or "place unknown"
+        words = words_of(report, call, until, last)
+        data["bars"].append([call.rank, 0, micros(call.begun - first), micros(call.ended - first), "call" if call.is_over else "stuck", call.name, place, words, micros(until - first)])
+        row = lost[call.name, place]
+        row[0] += 1
+        row[1] += call.ended - call.begun
+        row[2] += until - call.begun
+        row[3] = max(row[3], until - call.begun)
+    add_arrows(data, meetings, waited, calls, first)
+    add_tables(data, report, calls, waited, lost)
+
+
+def micros(nanoseconds):
+    return round(nanoseconds / 1000, 1)
+
+
+def words_of(report, call, until, last):
+    """What a call made or waited for, and whom it waited for."""
+    found = []
+    for awaited in call.awaited:
+        command = report.standings.command(call.rank, awaited) if awaited.kind == 1 else None
+        if command:
+            record = report.records[call.rank]
+            found.append(f"{call_words(command.call, lambda op, record=record: report.contexts.operation_words(record, op))}: call {awaited.index + 1} on {report.contexts.name(command.key)}")
+        elif awaited.kind in (2, 3):
+            found.append(("a receive " if awaited.kind == 2 else "a send ") + report.standings.message_words(call.rank, awaited))
+    if last:
+        found.append(f"waited for rank {last.rank}: {last.name}, {report.places.name(report.records[last.rank], last.place) or 'place unknown'}")
+    return "\n".join(found)
+
+
+def add_arrows(data, meetings, waited, calls, first):
+    """A message's arrow goes from its send to the end of the call that received it; a collective's from its last member to those that waited for it."""
+    for key, ends in meetings.ends.items():
+        for call, kind in ends:
+            if key[0] == "message" and kind == 2:
+                sent = meetings.posted[key].get((key[2], 3))
+                if sent and call.is_over:
+                    data["arrows"].append([key[2], micros(sent.begun - first), key[3], micros(max(call.ended, sent.begun) - first), "message"])
+            elif key[0] == "collective":
+                until, last = waited[id(call)]
+                if last and last is meetings.last_of(key, call, kind):
+                    data["arrows"].append([last.rank, micros(last.begun - first), call.rank, micros(until - first), "meet"])
+
+
+def add_tables(data, report, calls, waited, lost):
+    rows, spans = [], {}
+    for call in calls:
+        begun, ended, inside, waits, number = spans.get(call.rank, (call.begun, call.ended, 0, 0, 0))
+        spans[call.rank] = min(begun, call.begun), max(ended, call.ended), inside + call.ended - call.begun, waits + waited[id(call)][0] - call.begun, number + 1
+    for rank, (begun, ended, inside, waits, number) in sorted(spans.items()):
+        rows.append([str(rank), f"{number:,}", *(numbered(it / 1000) for it in (inside, waits, max(0, ended - begun - inside)))])
+    data["tables"].append({"title": "By rank", "note": "Milliseconds of the calls whose times are kept.", "head": ["rank", "calls", "in calls", "of it waiting", "elsewhere"], "rows": rows})
+    longest = sorted(((waited[id(it)][0] - it.begun, it) for it in calls), key=lambda it: -it[0])[:MOST_ROWS]
+    rows = []
+    for nanoseconds, call in longest:
+        last = waited[id(call)][1]
+        if nanoseconds > 0:
+            place = report.places.name(report.records[call.rank], call.place) or "place unknown"
+            whom = f"rank {last.rank}: {last.name}, {report.places.name(report.records[last.rank], last.place) or 'place unknown'}" if last else "what never came"
+            rows.append([str(call.rank), call.name, place, numbered(nanoseconds / 1000), whom])
+    if rows:
+        data["tables"].append({"title": "Longest waits", "note": "", "head": ["rank", "call", "place", "ms", "for"], "rows": rows})
+    rows = [[name, place, f"{row[0]:,}", *(numbered(it / 1000) for it in row[1:])] for (name, place), row in sorted(lost.items(), key=lambda it: -it[1][1])[:MOST_ROWS]]
+    data["tables"].append({"title": "By place", "note": "", "head": ["call", "place", "times", "ms", "of it waiting", "longest wait"], "rows": rows})
+
+
+# Of the files of wzrun and colljob
+
+
+def read(path):
+    try:
+        with open(path, encoding="utf-8", errors="replace") as file:
+            return file.read()
+    except OSError as why:
+        raise Unreadable(f"{path}: {why.strerror}") from why
+
+
+def page_of_files(title, timeline=None, tables=None, words=None, explained=None, status=None):
+    """The page of what a program wrote: trace events, tables in lines, what it said, and the lines of `colljob explain --format json`."""
+    data = empty_page(title, "", title, "good" if status in (None, 0) else "bad")
+    said = read(words) if words else ""
+    if said.strip():
+        add_said(data, said, status)
+    if explained:
+        add_explained(data, read(explained), explained)
+    if timeline:
+        add_events(data, read(timeline), timeline)
+    if tables:
+        data["tables"] += list(tables_of(read(tables)))
+    return page(data)
+
+
+def add_said(data, said, status):
+    """The sentences of wzrun, each with the lines beneath it; `a -> b` of a stall as a picture."""
+    for line in said.rstrip("\n").split("\n"):
+        if not line.startswith(" ") or not data["findings"]:
+            is_warning = "warning" in line
+            data["findings"].append({"words": line, "lines": [], "tone": "open" if is_warning else "bad" if status else ""})
+        else:
+            data["findings"][-1]["lines"].append(line)
+    data["verdict"] = next((it["words"] for it in data["findings"] if it["tone"] == "bad"), data["findings"][0]["words"])
+    cycle = re.search(r"wait for one another: ([\d >-]+)", said)
+    ranks = [int(it) for it in cycle[1].split("->")] if cycle else []
+    where = dict(re.findall(r"rank (\d+) waits in (.*)", said))
+    data["waiting"] = [{"rank": rank, "words": shorter(where.get(str(rank), "")), "over": False} for rank in dict.fromkeys(ranks)]
+    data["waits"] = list(zip(ranks, ranks[1:]))
+
+
+def shorter(words):
+    """A place without its folder."""
+    return re.sub(r" at (?:\S*/)?([^/\s]+)$", r", \1", words)
+
+
+def objects_of(text, path):
+    try:
+        return [json.loads(line) for line in text.splitlines() if line.strip()]
+    except ValueError as why:
+        raise Unreadable(f"{path}: not lines of JSON") from why
+
+
+def add_explained(data, text, path):
+    objects = objects_of(text, path)
+    last = next((it for it in objects if it.get("reason") == "explained"), None)
+    if last is None:
+        raise Unreadable(f"{path}: not what `colljob explain --format json` writes")
+    data["verdict"], data["tone"] = last["headline"], "good" if last["status"] == 0 else "bad"
+    stuck = {it["rank"]: it for it in objects if it.get("reason") == "waits"}
+    for rank, it in sorted(stuck.items()):
+        lines = [f"  for request {request['req']}, {request['kind']}, line {request['line']}: lacks rank {lack['rank']}" + (f", whose line {lack['line']} stands behind line {lack['behind']}" if lack.get("behind") else "")
+                 for request in it["requests"] for lack in request["lacks"]]
+        data["findings"].append({"words": f"rank {rank} waits in line {it['line']}: {it['command']}", "lines": lines, "tone": "bad"})
+    shown = last["shortest"] or sorted(stuck)
+    data["waits"] = sorted({(rank, lack["rank"]) for rank in shown if rank in stuck for request in stuck[rank]["requests"] for lack in request["lacks"] if lack["rank"] in shown})
+    data["waiting"] = [{"rank": rank, "words": f"line {stuck[rank]['line']}: {stuck[rank]['command']}" if rank in stuck else "", "over": rank not in stuck} for rank in shown]
+
+
+def add_events(data, text, path):
+    """The bars of trace events: each process a rank, each thread a row of it."""
+    try:
+        events = json.loads(text)["traceEvents"]
+    except (ValueError, KeyError, TypeError) as why:
+        raise Unreadable(f"{path}: not a timeline, as --timeline writes it") from why
+    meetings, ranks = collections.defaultdict(list), collections.defaultdict(lambda: [0, 0.0, 0.0, 0.0])
+    bars = [event for event in events if event.get("ph") == "X"]
+    for event in bars:
+        add_event(data, event, meetings, ranks)
+    add_messages(data, [event for event in bars if event.get("cat") == "message"])
+    for members in meetings.values():
+        last = max(members, key=lambda it: it[1])
+        data["arrows"] += [[last[0], last[1], rank, min(max(last[1], begun), ended), "meet"] for rank, begun, ended in members if rank != last[0] and last[1] > begun]
+    rows = [[str(rank), f"{number:,}", numbered(busy), numbered(waits)] for rank, (number, busy, waits, _) in sorted(ranks.items())]
+    data["tables"].append({"title": "By rank", "note": "Milliseconds.", "head": ["rank", "bars", "under way", "waiting"], "rows": rows})
+    data["about"] = f"{len(ranks)} ranks, {len(data['bars']):,} bars"
+
+
+def add_event(data, event, meetings, ranks):
+    said, is_wait = event.get("args", {}), event.get("cat") == "wait"
+    rank, begun, ended = event["pid"], event["ts"], event["ts"] + event["dur"]
+    at = os.path.basename(str(said.get("at", ""))) or (f"line {said['line']}" if said.get("line") else "")
+    words = ", ".join(f"{name} {value}" for name, value in said.items() if name not in ("at", "completed at", "line"))
+    data["bars"].append([rank, event.get("tid", 0), begun, ended, "call" if is_wait else "request", event["name"], at, words, ended if is_wait else begun])
+    row = ranks[rank]
+    row[0] += 1
+    row[1] += 0 if is_wait else event["dur"]
+    row[2] += event["dur"] if is_wait else 0
+    key = said.get("communicator", said.get("comm")), said.get("place"), said.get("start")
+    if not is_wait and said.get("place") is not None and key[0] is not None:
+        meetings[key].append((rank, begun, ended))
+
+
+def add_messages(data, events):
+    """Arrows of messages: of one rank, tag and communicator they are received in their order. A receive for any rank or tag has none."""
+    ends = collections.defaultdict(lambda: ([], []))
+    for event in sorted(events, key=lambda it: it["ts"]):
+        said, rank, is_receive = event["args"], event["pid"], re.search("recv$|recv_init$", event["name"], re.I)
+        if said.get("other", -1) >= 0 and "Sendrecv" not in event["name"]:
+            pair = (said["other"], rank) if is_receive else (rank, said["other"])
+            ends[(said.get("communicator"), *pair, said.get("tag"))][bool(is_receive)].append(event)
+    for (_, sender, receiver, _), (sends, receives) in ends.items():
+        for sent, got in zip(sends, receives):
+            data["arrows"].append([sender, sent["ts"], receiver, max(got["ts"] + got["dur"], sent["ts"]), "message"])
+
+
+def tables_of(text):
+    """The tables of --stats: after a line of words, lines whose numbers stand below the ends of these."""
+    lines, title = [*text.splitlines(), ""], "Statistics"
+    for number, line in enumerate(lines):
+        if line.rstrip().endswith(":"):
+            title = line.strip().rstrip(":").replace("wzrun: ", "").capitalize()
+        elif line.strip() and not is_row(line) and number + 1 < len(lines) and is_row(lines[number + 1]):
+            last = next(it for it in range(number + 1, len(lines)) if not is_row(lines[it]))
+            yield table_of(title, line, lines[number + 1:last])
+
+
+def is_row(line):
+    words = line.split()
+    return len(words) > 2 and re.fullmatch(r"\d+|all", words[0]) is not None and re.fullmatch(r"[\d.]+|-", words[1]) is not None
+
+
+def table_of(title, head, lines):
+    """A table whose head is cut where the first row's numbers end; what stands behind them is a column of words."""
+    numbers = re.match(r"(\s*(all|[\d.]+|-)(?=\s|$))+", lines[0])[0]
+    ends = [it.end() for it in re.finditer(r"\S+", numbers)]
+    rest = head[ends[-1]:].strip() or "collective"
+    has_rest = len(lines[0].rstrip()) > ends[-1]
+    cells = [head[begin:end].strip() for begin, end in zip([0, *ends], ends)]
+    rows = [(line.split(None, len(ends)) + [""])[:len(ends) + has_rest] for line in lines]
+    return {"title": title, "note": "", "head": cells + [rest] * has_rest, "rows": rows}
