@@ -60,10 +60,10 @@ impl Combination {
                 Err(Refused { why, back }) => (Some(Stage::Due(back)), Err(why)),
             },
         };
-        let None = mem::replace(&mut self.stage, stage) else {
-            unreachable!()
-        };
-        answer
+        match mem::replace(&mut self.stage, stage) {
+            None => answer,
+            Some(_taken) => unreachable!(),
+        }
     }
 
     /// Lets it go though no engine takes it back: for one whose engine is gone.

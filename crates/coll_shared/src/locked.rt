@@ -66,11 +66,14 @@ impl<L: Entries> Locked<L> {
         }
         self.stalled = false;
         for _step in 0..STEPS {
-            match self.traced.move_on() {
-                Ok(Stepped::Moved) => {}
-                Ok(Stepped::Finished) => self.finished = true,
-                Ok(Stepped::Quiet) | Err(_) => return,
-                Ok(Stepped::Out(_work)) => unreachable!(),
+            let Ok(stepped) = self.traced.move_on() else {
+                return;
+            };
+            match stepped {
+                Stepped::Moved => {}
+                Stepped::Finished => self.finished = true,
+                Stepped::Quiet => return,
+                Stepped::Out(_work) => unreachable!(),
             }
         }
     }

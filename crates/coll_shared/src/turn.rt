@@ -213,9 +213,12 @@ impl<L: Entries> Combiner<L> {
         if held.locked.successor() != Successor::Nobody {
             return held;
         }
-        match held.locked.step() {
-            Ok(Stepped::Out(work)) => self.compute_unseen(rt, held, work),
-            Ok(Stepped::Quiet | Stepped::Moved | Stepped::Finished) | Err(_) => held,
+        let Ok(stepped) = held.locked.step() else {
+            return held;
+        };
+        match stepped {
+            Stepped::Out(work) => self.compute_unseen(rt, held, work),
+            Stepped::Quiet | Stepped::Moved | Stepped::Finished => held,
         }
     }
 
