@@ -7,19 +7,20 @@ use std::alloc::{AllocError, Global};
 use std::marker::Model;
 use std::sync::Arc;
 
-/// Up to this many bytes lie in place and need no memory of their own: the room that a part of a block takes anyway.
+/// The most bytes that lie in place, without memory of their own. A part of a block takes the same
+/// room, so `Bytes` isn't larger for it.
 pub const FEW: usize = 31;
 
-/// Where bytes lie. A block stays whole as long as somebody has a part of it.
+/// Where the bytes lie. A block is freed once the last of its owners is dropped.
 #[derive(Debug, Drop)]
 enum Memory {
-    /// The row lies where a block's words do, so that all bytes are moved as words.
+    /// The row begins where a block's words begin, so that moving any `Bytes` moves whole words.
     InPlace {
         words: [u64; 0],
         row: [u8; FEW],
         len: u8,
     },
-    /// A part of a block that has one owner.
+    /// A part of a block with one owner.
     Owned {
         block: Vec<u8>,
         place: Region,
@@ -31,8 +32,8 @@ enum Memory {
     },
 }
 
-/// Bytes that are never written again: a few in place, more as a part of a block, which others may have parts of too. Contracts see
-/// the bytes.
+/// Immutable bytes. Up to `FEW` of them lie in place; more are a part of a block on the heap, which
+/// may have other owners. Contracts see the bytes, never who shares a block.
 #[derive(Debug, Drop)]
 pub struct Bytes {
     memory: Memory,
@@ -49,7 +50,7 @@ impl Model for Bytes {
     ghost invariant = { λ b. IsPlaced b.memory };
 }
 
-// A part of a block that nobody else has.
+// Makes bytes of a part of a block that has one owner.
 fn owned(block: Vec<u8>, place: Region) -> Bytes
     requires inside { Inside (length block.items) place }
     requires fits { place.at + place.len < 2 ^ 32 }
@@ -60,7 +61,7 @@ fn owned(block: Vec<u8>, place: Region) -> Bytes
     }
 }
 
-// A part of a block that others may have parts of.
+// Makes bytes of a part of a block that counts its owners.
 pub(crate) fn shared(block: Arc<Vec<u8>>, place: Region) -> Bytes
     requires inside { Inside (length (arc_value block).items) place }
     requires fits { place.at + place.len < 2 ^ 32 }
@@ -71,7 +72,7 @@ pub(crate) fn shared(block: Arc<Vec<u8>>, place: Region) -> Bytes
     }
 }
 
-// A region of a part of a block that nobody else has.
+// Cuts a region out of a part of a block that has one owner.
 #[tactic(auto, using(crate::proofs::Parts::read_read))]
 fn owned_part(block: Vec<u8>, place: Region, from: Region) -> Bytes
     requires inside { Inside (length block.items) place }
@@ -90,7 +91,7 @@ fn owned_part(block: Vec<u8>, place: Region, from: Region) -> Bytes
     }
 }
 
-// A region of a part of a block that others may have parts of.
+// Cuts a region out of a part of a block that counts its owners.
 #[tactic(auto, using(crate::proofs::Parts::read_read))]
 fn shared_part(block: Arc<Vec<u8>>, place: Region, from: Region) -> Bytes
     requires inside { Inside (length (arc_value block).items) place }
@@ -109,7 +110,7 @@ fn shared_part(block: Arc<Vec<u8>>, place: Region, from: Region) -> Bytes
     }
 }
 
-// A copy of bytes in a vector that has room for them.
+// Copies bytes into a vector that has room for them.
 fn copied(bytes: &[u8], room: Vec<u8>) -> Vec<u8>
     requires empty { room.items ≡ [] }
     requires none { vec_len room ≡ 0 }
@@ -123,7 +124,7 @@ fn copied(bytes: &[u8], room: Vec<u8>) -> Vec<u8>
     copy
 }
 
-/// Copies bytes over others, of which there are as many. Those of one number are copied as one word.
+/// Copies `from` over as many bytes. Rows of 0, 4 and 8 bytes are copied as words, without a call.
 #[inline(always)]
 pub fn copy_few(from: &[u8], into: &mut [u8])
     requires same { length from.now ≡ length into.old }
@@ -137,7 +138,7 @@ pub fn copy_few(from: &[u8], into: &mut [u8])
     }
 }
 
-// A row that begins with a few bytes.
+// Makes a row of `FEW` bytes that begins with these.
 #[inline(always)]
 fn row_of(bytes: &[u8]) -> [u8; FEW]
     requires { length bytes.now ≤ FEW }
@@ -149,14 +150,14 @@ fn row_of(bytes: &[u8]) -> [u8; FEW]
 }
 
 impl Bytes {
-    /// None.
+    /// Returns an empty `Bytes`.
     pub fn empty() -> Bytes
         ensures { result ≡ [] }
     {
         Bytes::few(&[])
     }
 
-    /// A copy of a few bytes, in place.
+    /// Copies up to `FEW` bytes, in place.
     pub fn few(bytes: &[u8]) -> Bytes
         requires { length bytes.now ≤ FEW }
         ensures { result ≡ bytes.now }
@@ -170,7 +171,8 @@ impl Bytes {
         }
     }
 
-    /// The bytes of a vector. Only a few are copied; then the vector's memory is free.
+    /// Takes the bytes of a vector. Up to `FEW` bytes are copied and the vector's memory is freed;
+    /// more keep the vector's memory.
     pub fn from_vec(bytes: Vec<u8>) -> Bytes
         requires { length bytes.items < 2 ^ 32 }
         ensures { result ≡ bytes.items }
@@ -182,7 +184,7 @@ impl Bytes {
         owned(bytes, place)
     }
 
-    /// A copy of bytes.
+    /// Copies bytes. Up to `FEW` take no memory.
     pub fn copy(alloc: Global, bytes: &[u8]) -> Result<Bytes, AllocError>
         requires { length bytes.now < 2 ^ 32 }
         ensures ok { IfOk result (λ copy. copy ≡ bytes.now) }
@@ -195,7 +197,7 @@ impl Bytes {
         Ok(Bytes::from_vec(copied(bytes, room)))
     }
 
-    /// The bytes.
+    /// Returns the bytes.
     pub fn as_slice(&self) -> &[u8]
         ensures { result.now ≡ self.now }
     {
@@ -206,7 +208,7 @@ impl Bytes {
         }
     }
 
-    /// How many there are.
+    /// Returns the number of bytes.
     pub fn len(&self) -> u32
         ensures { result ≡ length self.now }
     {
@@ -217,19 +219,20 @@ impl Bytes {
         }
     }
 
-    /// Whether there is none.
+    /// Tells whether there are no bytes.
     pub fn is_empty(&self) -> bool
         ensures { result ≡ (length self.now == 0) }
     {
         self.len() == 0
     }
 
-    /// A second owner of the bytes, which copies a few and no more. Memory is taken where it is the second one of a vector's bytes,
-    /// since the block begins to count its owners then.
+    /// Returns a second owner of the bytes. Up to `FEW` bytes are copied, longer rows never. The
+    /// second owner of a vector's bytes takes memory, because the block begins to count its owners
+    /// then.
     ///
     /// # Errors
     ///
-    /// No memory for the count, or a count that is full, at 2^63 owners. Nothing changes.
+    /// No memory for the count, or a full count (2^63 owners). Nothing changes.
     pub fn share(&mut self, alloc: Global) -> Result<Bytes, AllocError>
         ensures ok { IfOk result (λ other. other ≡ self.old) }
         ensures few { length self.old ≤ FEW → IsOk result }
@@ -242,7 +245,7 @@ impl Bytes {
         self.part(alloc, all)
     }
 
-    // A copy of bytes that lie in place.
+    // Copies bytes that lie in place.
     #[inline(always)]
     fn copy_in_place(&self) -> Option<Bytes>
         ensures { IfSome result (λ copy. copy ≡ self.now) }
@@ -259,7 +262,7 @@ impl Bytes {
         }
     }
 
-    /// The bytes of a region of these, with an owner of their own, as by `share`.
+    /// Returns an owner of a region's bytes. Copies and allocates as `share` does.
     ///
     /// # Errors
     ///
@@ -277,7 +280,7 @@ impl Bytes {
         self.counted_part(from)
     }
 
-    /// Has the bytes' block count its owners, so that `share_in` copies nothing.
+    /// Lets the block count its owners from now on, so that `share_in` copies nothing.
     ///
     /// # Errors
     ///
@@ -297,15 +300,16 @@ impl Bytes {
         done
     }
 
-    /// A second owner of the bytes where their block counts its owners; none else, also where they are a few. It takes no memory.
+    /// Returns a second owner of the bytes if their block counts its owners, else None, as for
+    /// bytes in place. Takes no memory.
     pub fn share_counted(&self) -> Option<Bytes>
         ensures { IfSome result (λ other. other ≡ self.now) }
     {
         self.counted_part(Region::front(self.len())).ok()
     }
 
-    /// Whether more owners than this many have the bytes' block, where it counts them; `false` else. It is so at one moment: others may
-    /// get their block or give it up meanwhile.
+    /// Tells whether the block has more than `count` owners; `false` if the block doesn't count
+    /// them. The answer holds at one moment, because other threads may add or drop owners.
     pub fn has_owners_beyond(&self, count: usize) -> bool {
         match &self.memory {
             Memory::Shared { block, .. } => Arc::strong_count(block) > count,
@@ -313,8 +317,8 @@ impl Bytes {
         }
     }
 
-    /// A second owner of the bytes where their block counts its owners or they are a few, else a copy in the room that is given. It
-    /// takes no memory.
+    /// Returns a second owner of the bytes if their block counts its owners or they lie in place,
+    /// else a copy in the vector `room`. Takes no memory.
     pub fn share_in(&self, room: Vec<u8>) -> Bytes
         requires empty { room.items ≡ [] }
         requires none { vec_len room ≡ 0 }
@@ -334,7 +338,7 @@ impl Bytes {
         }
     }
 
-    // A region's bytes with an owner more, if the block counts its owners.
+    // Returns a further owner of a region's bytes, if the block counts its owners.
     fn counted_part(&self, from: Region) -> Result<Bytes, AllocError>
         requires { Inside (length self.now) from }
         ensures { IfOk result (λ part. part ≡ read_of self.now from) }
@@ -348,7 +352,8 @@ impl Bytes {
         }
     }
 
-    /// The bytes of a region of these, whose owner gives up the others. It takes no memory; a block stays whole.
+    /// Returns the bytes of a region and gives up the others. Takes no memory; the block stays
+    /// whole.
     pub fn into_part(self, from: Region) -> Bytes
         requires { Inside (length self) from }
         ensures { result ≡ read_of self from }
@@ -364,8 +369,8 @@ impl Bytes {
         }
     }
 
-    /// The bytes in a vector: the block's own, where nobody else has it and they are its front, else copied into the room that is
-    /// given. It takes no memory.
+    /// Returns the bytes as a vector. It is the block's own vector if nobody else owns the block
+    /// and the bytes are its front, else a copy in `room`. Takes no memory.
     pub fn into_vec(self, room: Vec<u8>) -> Vec<u8>
         requires empty { room.items ≡ [] }
         requires none { vec_len room ≡ 0 }
@@ -378,7 +383,8 @@ impl Bytes {
         }
     }
 
-    // The block's vector, where nobody else has it and the bytes are its front; else the bytes back.
+    // Returns the block's vector if nobody else owns the block and the bytes are its front, else
+    // the bytes.
     fn into_front(self) -> Result<Vec<u8>, Bytes>
         ensures ok { IfOk result (λ front. front.items ≡ self) }
         ensures err { IfErr result (λ bytes. bytes ≡ self) }
@@ -395,7 +401,7 @@ impl Bytes {
     }
 }
 
-// A block, cut to a region that is its front; else the region's bytes.
+// Cuts a block to a region that is its front. Returns the region's bytes if it isn't the front.
 fn front_of(block: Vec<u8>, place: Region) -> Result<Vec<u8>, Bytes>
     requires inside { Inside (length block.items) place }
     requires fits { place.at + place.len < 2 ^ 32 }

@@ -1,4 +1,4 @@
-//! Regions that no one segment has, put together from several.
+//! Puts a region together whose bytes lie in several segments.
 
 ghost use Rattle.std.specs.Prelude.{◌≡◌, ◌+◌, ◌-◌, ◌<◌, ◌≤◌, ◌^◌, ◌↔◌, [], length, min, replicate, IfOk, IsOk, IsTrue, vec_capacity, vec_len};
 ghost use Rattle.coll_sched.specs.Regions.{Inside, read_of};
@@ -10,7 +10,7 @@ use coll_ops::are_same;
 use coll_sched::Region;
 use std::alloc::{AllocError, Global};
 
-// Lays a region over as many zeros.
+// Copies a region's bytes over as many zeros.
 fn compose(segments: &[Segment], size: u32, from: Region, out: &mut [u8])
     requires all { AllInside size segments.now }
     requires inside { Inside size from }
@@ -22,7 +22,7 @@ fn compose(segments: &[Segment], size: u32, from: Region, out: &mut [u8])
     }
 }
 
-// A region of a few bytes, put together in place.
+// Puts a region of up to `FEW` bytes together in place.
 fn composed_few(segments: &[Segment], size: u32, from: Region) -> Bytes
     requires all { AllInside size segments.now }
     requires inside { Inside size from }
@@ -35,7 +35,7 @@ fn composed_few(segments: &[Segment], size: u32, from: Region) -> Bytes
     Bytes::few(out)
 }
 
-/// Puts a region together in an empty vector that has room for it.
+/// Appends a region's bytes to an empty vector that has room for them.
 pub(crate) fn compose_in(segments: &[Segment], size: u32, from: Region, out: &mut Vec<u8>)
     requires all { AllInside size segments.now }
     requires inside { Inside size from }
@@ -50,7 +50,7 @@ pub(crate) fn compose_in(segments: &[Segment], size: u32, from: Region, out: &mu
     compose(segments, size, from, out);
 }
 
-// A region, put together in the room that is given.
+// Puts a region together in the vector `room`.
 fn composed_in(segments: &[Segment], size: u32, from: Region, room: Vec<u8>) -> Bytes
     requires all { AllInside size segments.now }
     requires inside { Inside size from }
@@ -64,7 +64,7 @@ fn composed_in(segments: &[Segment], size: u32, from: Region, room: Vec<u8>) -> 
     Bytes::from_vec(out)
 }
 
-// The part of a region of at most `FEW` bytes that begins after this many of its bytes.
+// Returns the next part of `from`, at most `FEW` bytes long, after its first `done` bytes.
 fn few_behind(from: Region, done: u32) -> Region
     requires low { done < from.len }
     requires fits { from.at + from.len < 2 ^ 32 }
@@ -76,7 +76,7 @@ fn few_behind(from: Region, done: u32) -> Region
     }
 }
 
-// Whether a region of a few bytes has these.
+// Compares a region of up to `FEW` bytes with `bytes`.
 fn shows_few(segments: &[Segment], size: u32, from: Region, bytes: &[u8]) -> bool
     requires all { AllInside size segments.now }
     requires inside { Inside size from }
@@ -87,7 +87,7 @@ fn shows_few(segments: &[Segment], size: u32, from: Region, bytes: &[u8]) -> boo
     are_same(few.as_slice(), bytes)
 }
 
-/// Whether a region has these bytes.
+/// Compares a region with `bytes`. Takes no memory.
 pub(crate) fn shows_bytes(segments: &[Segment], size: u32, from: Region, bytes: &[u8]) -> bool
     requires all { AllInside size segments.now }
     requires inside { Inside size from }
@@ -109,7 +109,8 @@ pub(crate) fn shows_bytes(segments: &[Segment], size: u32, from: Region, bytes: 
     true
 }
 
-/// A region, put together in a block that counts its owners: it is sent on, or it is the outcome. A few bytes take no memory.
+/// Puts a region together in a block that counts its owners, because the bytes are sent on or
+/// become the outcome. Up to `FEW` bytes take no memory.
 pub(crate) fn composed(
     alloc: Global,
     segments: &[Segment],

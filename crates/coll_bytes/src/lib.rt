@@ -1,13 +1,13 @@
-//! Bytes that are never written again, so that several owners can have them in one memory; and a schedule's buffer that is made of
-//! such bytes, so that a write takes an owner in and a read gives one out.
+//! Immutable bytes with several owners, and the buffer of a schedule that is made of such bytes. A
+//! write takes an owner in, a read gives one out, and neither copies a long row.
 //!
 //! | Module | Has |
 //! |---|---|
-//! | `bytes` | `Bytes`, a few in place or a part of a block |
-//! | `shell` | `Shell`, in which bytes that are put together later count their owners |
-//! | `segments` | `Segments`, a schedule's buffer |
-//! | `segment` | one of its writes, and where a region lies beside it |
-//! | `composed` | a region that several of them have, put together |
+//! | `bytes` | `Bytes`: up to `FEW` bytes in place, or a part of a block on the heap |
+//! | `shell` | `Shell`: the count of owners of a block whose bytes are put together later |
+//! | `segments` | `Segments`: a schedule's buffer |
+//! | `segment` | one write into a buffer, and how a region lies beside it |
+//! | `composed` | a region whose bytes lie in several segments, put together |
 #![tactic(auto)]
 
 mod bytes;

@@ -1,4 +1,4 @@
-//! Bytes at their place in a buffer, and where a region lies beside them.
+//! A write into a buffer, and how a region lies beside it.
 
 ghost use Rattle.std.specs.Prelude.{◌≡◌, ℕ, ◌↔◌, List, length, IfNone, IfSome, IsTrue};
 ghost use Rattle.coll_sched.specs.Regions.{Apart, Inside, read_of, written};
@@ -15,7 +15,7 @@ pub(crate) struct Segment {
     pub(crate) bytes: Bytes,
 }
 
-/// Whether one region has all bytes of another.
+/// Tells whether `inner` lies in `outer`.
 pub(crate) fn is_within(outer: Region, inner: Region) -> bool
     ensures { IsTrue result ↔ Within outer inner }
 {
@@ -23,7 +23,7 @@ pub(crate) fn is_within(outer: Region, inner: Region) -> bool
         && u64::from(inner.at) + u64::from(inner.len) <= u64::from(outer.at) + u64::from(outer.len)
 }
 
-// Where a region lies in another.
+// Returns the place of `inner` counted from the front of `outer`.
 fn seen_from(outer: Region, inner: Region) -> Region
     requires { Within outer inner }
     ensures { result ≡ seen_from outer inner }
@@ -34,7 +34,7 @@ fn seen_from(outer: Region, inner: Region) -> Region
     }
 }
 
-// The bytes that two regions share, if there are any.
+// Returns the intersection of two regions, if it isn't empty.
 fn common(first: Region, second: Region) -> Option<Region>
     ensures common { IfSome result (IsCommon first second) }
     ensures none { IfNone result (Apart first second) }
@@ -56,7 +56,7 @@ fn common(first: Region, second: Region) -> Option<Region>
 }
 
 impl Segment {
-    /// The region that it takes.
+    /// Returns the region of the buffer that the segment covers.
     pub(crate) fn place(&self) -> Region
         ensures { result ≡ place_of self.now }
     {
@@ -66,7 +66,7 @@ impl Segment {
         }
     }
 
-    /// Where a region of the buffer lies in it.
+    /// Returns the place of a region of the buffer, counted from the front of the segment.
     pub(crate) fn inner(&self, from: Region) -> Region
         requires { Within (place_of self.now) from }
         ensures { result ≡ seen_from (place_of self.now) from }
@@ -74,7 +74,7 @@ impl Segment {
         seen_from(self.place(), from)
     }
 
-    /// Lays what it has of a region over the region's bytes.
+    /// Copies the segment's bytes of a region over the region's bytes in `out`.
     pub(crate) fn lay_over(&self, from: Region, out: &mut [u8])
         requires { length out.old ≡ from.len }
         ensures { (buffer : List ℕ) → Inside (length buffer) (place_of self.now) → Inside (length buffer) from

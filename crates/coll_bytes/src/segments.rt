@@ -13,15 +13,15 @@ use smallvec::SmallVec;
 use std::alloc::{AllocError, Global};
 use std::marker::Model;
 
-/// So many writes need no memory, before any room is made.
+/// How many writes need no memory before any room is made.
 pub const WRITES_IN_PLACE: usize = 1;
 
-/// A schedule's buffer: what was written lies there as segments, a newer one over the older ones, and all of them over zeros. So a write
-/// copies nothing, and a region that was written as a whole is read without a copy. Contracts see the buffer's bytes, and how many writes need
-/// no memory.
+/// A schedule's buffer. Each write lies in it as a segment: newer segments hide older ones, and all
+/// segments lie over zeros. So a write copies nothing, and a region that was written as a whole is
+/// read without a copy. Contracts see the buffer's bytes, and how many more writes need no memory.
 ///
-/// Each call looks at the segments from the newest one on: a schedule mostly reads what it wrote last, and a write takes out those that it
-/// hides.
+/// Each call begins with the newest segment, because a schedule mostly reads what it wrote last. A
+/// write removes the segments that it hides.
 #[derive(Debug, Drop)]
 pub struct Segments {
     size: u32,
@@ -41,7 +41,7 @@ impl Model for Segments {
     ghost invariant = { λ b. AllInside b.size b.segments.items };
 }
 
-// The index of the newest segment that has a byte of a region, if it has all of them.
+// Returns the index of the newest segment that has a byte of the region, if it has all of them.
 fn holder(segments: &[Segment], size: u32, from: Region) -> Option<usize>
     requires all { AllInside size segments.now }
     requires inside { Inside size from }
@@ -62,7 +62,7 @@ fn holder(segments: &[Segment], size: u32, from: Region) -> Option<usize>
     None
 }
 
-// A region's bytes, which one segment has.
+// Returns a region's bytes, which lie in one segment.
 fn slice_at(segments: &[Segment], size: u32, i: usize, from: Region) -> &[u8]
     requires { Shows size segments.now from i }
     ensures { result.now ≡ read_of (laid size segments.now) from }
@@ -73,7 +73,7 @@ fn slice_at(segments: &[Segment], size: u32, i: usize, from: Region) -> &[u8]
     inner.read(segment.bytes.as_slice())
 }
 
-// An owner of a region's bytes, which one segment has.
+// Returns an owner of a region's bytes, which lie in one segment.
 fn part_at(
     segments: &mut SmallVec<Segment, WRITES_IN_PLACE>,
     size: u32,
@@ -91,7 +91,7 @@ fn part_at(
     segment.bytes.part(alloc, inner)
 }
 
-// A region's bytes, which one segment has; the segments go.
+// Returns a region's bytes, which lie in one segment, and drops the segments.
 fn part_of(segments: SmallVec<Segment, WRITES_IN_PLACE>, size: u32, i: usize, from: Region) -> Bytes
     requires { Shows size segments.items from i }
     ensures { result ≡ read_of (laid size segments.items) from }
@@ -102,7 +102,7 @@ fn part_of(segments: SmallVec<Segment, WRITES_IN_PLACE>, size: u32, i: usize, fr
     segment.bytes.into_part(inner)
 }
 
-// Takes a segment out.
+// Removes one segment.
 fn discard(segments: &mut SmallVec<Segment, WRITES_IN_PLACE>, i: usize)
     requires { i < small_vec_len segments.old }
     ensures items { segments.new.items ≡ remove segments.old.items i }
@@ -112,7 +112,7 @@ fn discard(segments: &mut SmallVec<Segment, WRITES_IN_PLACE>, i: usize)
     let _segment = segments.remove(i);
 }
 
-// Takes out the segments that a write into the region hides.
+// Removes the segments that a write into the region hides.
 fn remove_hidden(segments: &mut SmallVec<Segment, WRITES_IN_PLACE>, size: u32, region: Region)
     requires all { AllInside size segments.old.items }
     requires inside { Inside size region }
@@ -132,7 +132,7 @@ fn remove_hidden(segments: &mut SmallVec<Segment, WRITES_IN_PLACE>, size: u32, r
     }
 }
 
-// Lays bytes over a region.
+// Adds bytes over a region as a new segment.
 fn lay(segments: &mut SmallVec<Segment, WRITES_IN_PLACE>, size: u32, region: Region, bytes: Bytes)
     requires all { AllInside size segments.old.items }
     requires inside { Inside size region }
@@ -151,7 +151,7 @@ fn lay(segments: &mut SmallVec<Segment, WRITES_IN_PLACE>, size: u32, region: Reg
 }
 
 impl Segments {
-    /// A buffer of zeros.
+    /// Makes a buffer of `size` zeros.
     pub fn new(alloc: Global, size: u32) -> Segments
         ensures { result ≡ record { bytes = replicate size 0; room = WRITES_IN_PLACE } }
     {
@@ -161,7 +161,7 @@ impl Segments {
         }
     }
 
-    /// A buffer of zeros with these bytes in a region.
+    /// Makes a buffer of `size` zeros with `bytes` in a region.
     pub fn lay_in(alloc: Global, size: u32, region: Region, bytes: Bytes) -> Segments
         requires inside { Inside size region }
         requires same { length bytes ≡ region.len }
@@ -173,21 +173,25 @@ impl Segments {
         buffer
     }
 
-    /// How many bytes the buffer has.
+    /// Returns the number of bytes of the buffer.
     pub fn size(&self) -> u32
         ensures { result ≡ length self.now.bytes }
     {
         self.size
     }
 
-    /// Whether one more write needs no memory.
+    /// Tells whether one more write needs no memory.
     pub fn has_room(&self) -> bool
         ensures { IsTrue result ↔ (0 < self.now.room) }
     {
         self.segments.len() < self.segments.capacity()
     }
 
-    /// Makes room for this many writes.
+    /// Makes room for `writes` writes.
+    ///
+    /// # Errors
+    ///
+    /// No memory. Nothing changes.
     pub fn reserve(&mut self, writes: usize) -> Result<(), AllocError>
         ensures ok { OnOk result (writes ≤ self.new.room) }
         ensures bytes { self.new.bytes ≡ self.old.bytes }
@@ -196,7 +200,7 @@ impl Segments {
         self.segments.reserve(writes)
     }
 
-    /// Puts these bytes in place of a region's. It takes no memory.
+    /// Replaces a region's bytes. Takes no memory.
     pub fn put(&mut self, region: Region, bytes: Bytes)
         requires inside { Inside (length self.old.bytes) region }
         requires same { length bytes ≡ region.len }
@@ -207,11 +211,12 @@ impl Segments {
         lay(&mut self.segments, self.size, region, bytes);
     }
 
-    /// The bytes of a region with an owner of their own: shared as by `Bytes::part` where one segment has them, else put together.
+    /// Returns an owner of a region's bytes. They are shared, as by `Bytes::part`, if they lie in
+    /// one segment; else they are copied into a new block.
     ///
     /// # Errors
     ///
-    /// As `Bytes::part`, or no memory for bytes that are put together. Nothing changes.
+    /// As `Bytes::part`, or no memory for the copy. Nothing changes.
     pub fn part(&mut self, alloc: Global, from: Region) -> Result<Bytes, AllocError>
         requires { Inside (length self.old.bytes) from }
         ensures ok { IfOk result (λ part. part ≡ read_of self.old.bytes from) }
@@ -224,7 +229,7 @@ impl Segments {
         }
     }
 
-    /// The bytes of a region where they lie, if one segment has them.
+    /// Returns a region's bytes where they lie, if they lie in one segment.
     pub fn slice_of(&self, from: Region) -> Option<&[u8]>
         requires { Inside (length self.now.bytes) from }
         ensures { IfSome result (λ bytes. bytes.now ≡ read_of self.now.bytes from) }
@@ -234,8 +239,8 @@ impl Segments {
         Some(slice_at(segments, self.size, i, from))
     }
 
-    /// Whether a region has these bytes. It takes no memory; where no one segment has the region, it is put together a few bytes at a
-    /// time.
+    /// Compares a region with `bytes`. Takes no memory: a region of several segments is put
+    /// together a few bytes at a time.
     pub fn has(&self, from: Region, bytes: &[u8]) -> bool
         requires { Inside (length self.now.bytes) from }
         ensures { IsTrue result ↔ (read_of self.now.bytes from ≡ bytes.now) }
@@ -247,7 +252,7 @@ impl Segments {
             && shows_bytes(self.segments.as_slice(), self.size, from, bytes)
     }
 
-    /// Copies the buffer's bytes into an empty vector that has room for them. It takes no memory.
+    /// Copies the buffer into an empty vector that has room for it. Takes no memory.
     pub fn copy_to(&self, out: &mut Vec<u8>)
         requires empty { out.old.items ≡ [] }
         requires none { vec_len out.old ≡ 0 }
@@ -258,8 +263,8 @@ impl Segments {
         compose_in(self.segments.as_slice(), self.size, all, out);
     }
 
-    /// The bytes of a region, while the buffer goes: of the one segment that has them, else put together in the room and the shell that
-    /// are given. It takes no memory.
+    /// Returns a region's bytes and drops the buffer. Bytes of several segments are put together in
+    /// `room` and `shell`. Takes no memory.
     pub fn into_part(self, from: Region, room: Vec<u8>, shell: Shell) -> Bytes
         requires inside { Inside (length self.bytes) from }
         requires empty { room.items ≡ [] }

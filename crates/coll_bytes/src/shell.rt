@@ -5,27 +5,28 @@ use coll_sched::Region;
 use std::alloc::Global;
 use std::sync::Arc;
 
-/// What a block takes to count its owners, before it has its bytes: so bytes that are put together later can have several owners and take
-/// no memory then.
+/// Memory for a block's count of owners, taken before the block has its bytes. So bytes that are
+/// put together later can have several owners without taking memory then.
 #[derive(Debug, Drop)]
 pub struct Shell {
     block: Option<Arc<Vec<u8>>>,
 }
 
 impl Shell {
-    /// One of use, if there is memory for it.
+    /// Takes memory for a count. Without memory the shell is empty.
     pub fn new(alloc: Global) -> Shell {
         Shell {
             block: Arc::new(alloc, Vec::new(alloc)).ok(),
         }
     }
 
-    /// One that is of no use. It takes no memory.
+    /// Returns an empty shell, which takes no memory.
     pub fn none() -> Shell {
         Shell { block: None }
     }
 
-    /// The bytes of a vector, as by `Bytes::from_vec`, in a block that counts its owners where the shell is of use.
+    /// Takes the bytes of a vector, as `Bytes::from_vec` does. Their block counts its owners,
+    /// unless the shell is empty.
     pub fn fill(self, bytes: Vec<u8>) -> Bytes
         requires { length bytes.items < 2 ^ 32 }
         ensures { result ≡ bytes.items }

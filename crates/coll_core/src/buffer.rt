@@ -21,16 +21,17 @@ use coll_sched::{Action, Region, Round, Schedule};
 use std::alloc::Global;
 use std::marker::Model;
 
-/// Buffers of up to this many bytes lie in one piece from the beginning: sharing them costs more than copying them.
+/// Buffers of up to this many bytes lie in one piece from the beginning, because sharing so few
+/// bytes costs more than copying them.
 pub(crate) const SHORT: u32 = 1_024;
 
-/// What a long buffer has until its bytes lie together.
+/// The memory of a long buffer until its bytes are put together.
 #[derive(Debug, Drop)]
 struct Segmented {
     long: Long,
-    /// Memory for the bytes, and for the outcome.
+    /// Memory for the bytes in one piece, and for the outcome.
     own: Vec<u8>,
-    /// As of bytes that lie together.
+    /// Memory for a copy of the outcome, as in `Memory::Together`.
     spare: Vec<u8>,
 }
 
@@ -42,16 +43,18 @@ enum Memory {
     /// Bytes in one piece.
     Together {
         own: Vec<u8>,
-        /// Memory for a copy of the outcome, where it can't have a second owner.
+        /// Memory for a copy of the outcome, which is used if the outcome can't have a second
+        /// owner.
         spare: Vec<u8>,
     },
-    /// Segments. They lie apart, since a record that is small moves fast.
+    /// Segments. They lie in a block of their own, because a small record is cheap to move.
     InSegments(Box<Segmented>),
 }
 
-/// A schedule's buffer. Few bytes lie in it, and take no memory. What was written to a long one lies in segments, which messages, operands,
-/// contributions and outcomes share with it, as long as there is room for one more of them. Then the bytes are put together, and from then
-/// on a write copies. So no write takes memory, and neither does a completion.
+/// A schedule's buffer. Up to `FEW` bytes lie in the record and take no memory. The writes into a
+/// long buffer lie in segments, which messages, operands, contributions and outcomes share. Once
+/// there is no room for one more segment, the bytes are put together, and later writes copy. So
+/// neither a write nor a completion takes memory.
 #[derive(Debug, Drop)]
 pub struct Buffer {
     memory: Memory,
@@ -68,8 +71,8 @@ impl Model for Buffer {
     ghost invariant = { λ b. HasRooms b.memory };
 }
 
-/// The bytes of a region, in the memory of the buffer. They are moved at most once, all at one time where they don't overlap the
-/// place where they go: bytes that may overlap are moved one by one.
+/// Cuts a region out, in the memory of the buffer. The bytes are moved at most once. They are moved
+/// in one call if source and target don't overlap, else byte by byte.
 fn cut(buffer: Vec<u8>, region: Region) -> Vec<u8>
     requires { Inside (length buffer.items) region }
     ensures { result.items ≡ read_of buffer.items region }
@@ -82,7 +85,7 @@ fn cut(buffer: Vec<u8>, region: Region) -> Vec<u8>
     bytes
 }
 
-/// Writes bytes into a region of bytes in one piece.
+/// Writes into a region of bytes that lie in one piece.
 fn write_long(into: Region, bytes: &Bytes, own: &mut Vec<u8>)
     requires inside { Inside (length own.old.items) into }
     requires same { length bytes.now ≡ into.len }
@@ -94,7 +97,7 @@ fn write_long(into: Region, bytes: &Bytes, own: &mut Vec<u8>)
     }
 }
 
-/// The bytes of segments in one piece, with others in place of a region's.
+/// Puts segments together in one piece, with `bytes` in place of a region.
 fn put_together(segmented: Segmented, into: Region, bytes: &Bytes) -> Memory
     requires own { IsRoom segmented.own (length segmented.long.segments.bytes) }
     requires spare { HasRoom segmented.spare (length segmented.long.segments.bytes) }
@@ -110,7 +113,8 @@ fn put_together(segmented: Segmented, into: Region, bytes: &Bytes) -> Memory
     Memory::Together { own: whole, spare }
 }
 
-/// Awaits the result of a combination of two regions that is handed out, where there is memory for that.
+/// Remembers that the result of a handed-out combination will lie in its cell, if there is memory
+/// for a cell.
 fn await_combination(long: &mut Long, alloc: Global, work: &mut Work, left: Region, right: Region)
     requires left { work.old.left ≡ read_of long.old.segments.bytes left }
     requires right { work.old.right ≡ read_of long.old.segments.bytes right }
@@ -130,7 +134,7 @@ fn await_combination(long: &mut Long, alloc: Global, work: &mut Work, left: Regi
     long.set_awaited(awaited);
 }
 
-/// How many actions there are: no more writes than that.
+/// Counts the actions of a schedule. There are no more writes than actions.
 fn action_count(rounds: &[Round]) -> usize {
     let mut count: usize = 0;
     for round in rounds {
@@ -140,7 +144,7 @@ fn action_count(rounds: &[Round]) -> usize {
 }
 
 impl Buffer {
-    /// Without bytes. It takes no memory.
+    /// Returns a buffer without bytes. Takes no memory.
     pub fn empty(alloc: Global) -> Buffer
         ensures { result ≡ [] }
     {
@@ -148,7 +152,7 @@ impl Buffer {
         Buffer::few(Row::empty())
     }
 
-    // A buffer of few bytes.
+    // Makes a buffer of up to `FEW` bytes.
     fn few(row: Row) -> Buffer
         ensures { result ≡ row }
     {
@@ -157,8 +161,8 @@ impl Buffer {
         }
     }
 
-    /// The schedule's buffer with the contribution laid in, and zeros elsewhere. A long buffer shares the contribution. Only NoMemory is
-    /// refused.
+    /// Makes the schedule's buffer: the contribution in its input region, zeros elsewhere. A long
+    /// buffer shares the contribution. The only refusal is NoMemory.
     #[inline(always)]
     pub(crate) fn lay_in(
         alloc: Global,
@@ -182,7 +186,7 @@ impl Buffer {
         Buffer::lay_long(alloc, schedule, input, shared)
     }
 
-    // A buffer whose bytes lie together from the beginning.
+    // Makes a buffer whose bytes lie together from the beginning.
     fn lay_short(alloc: Global, schedule: &Schedule, bytes: &[u8]) -> Result<Buffer, Refusal>
         requires { length bytes.now ≡ schedule.now.input.len }
         ensures ok { IfOk result (λ buffer. buffer ≡ laid_in schedule.now bytes.now) }
@@ -195,7 +199,8 @@ impl Buffer {
         })
     }
 
-    // A buffer of segments, the first of which is the contribution. Its block counts its owners from the beginning: it may be the outcome.
+    // Makes a buffer of segments, the first of which is the contribution. The contribution's block
+    // counts its owners from the beginning, because it may become the outcome.
     fn lay_long(
         alloc: Global,
         schedule: &Schedule,
@@ -229,7 +234,7 @@ impl Buffer {
         }
     }
 
-    /// Puts bytes in place of a region's.
+    /// Replaces a region's bytes.
     #[inline(always)]
     pub(crate) fn write(&mut self, into: Region, bytes: Bytes)
         requires inside { Inside (length self.old) into }
@@ -259,7 +264,8 @@ impl Buffer {
         self.memory = put_together(Box::into_inner(segmented), into, &bytes);
     }
 
-    /// The bytes of a region, shared where one segment has them, else copied. Only NoMemory is refused.
+    /// Returns an owner of a region's bytes: shared if they lie in one segment, else copied. The
+    /// only refusal is NoMemory.
     #[inline(always)]
     pub(crate) fn part(&mut self, alloc: Global, from: Region) -> Result<Bytes, Refusal>
         requires { Inside (length self.old) from }
@@ -274,7 +280,7 @@ impl Buffer {
         }
     }
 
-    /// The bytes of a region, up to eight of them. It takes no memory.
+    /// Copies a region of up to eight bytes. Takes no memory.
     #[inline(always)]
     pub(crate) fn word(&mut self, alloc: Global, from: Region) -> Word
         requires inside { Inside (length self.old) from }
@@ -294,7 +300,8 @@ impl Buffer {
         }
     }
 
-    /// Awaits the result of a combination of two regions that is handed out, where there is memory for that and the bytes don't lie together.
+    /// Remembers that the result of a handed-out combination will lie in its cell. Does nothing if
+    /// there is no memory for a cell, or if the buffer's bytes lie together.
     pub(crate) fn await_result(
         &mut self,
         alloc: Global,
@@ -312,7 +319,7 @@ impl Buffer {
         }
     }
 
-    /// The combination of its bytes whose result is awaited.
+    /// Returns the combination whose result is awaited in a cell.
     #[inline(always)]
     pub(crate) fn awaited(&self) -> Option<&Awaited>
         ensures { IfSome result (λ a. a.now.cell ≡ combination_of a.now.op a.now.ty (read_of self.now a.now.left) (read_of self.now a.now.right)) }
@@ -323,7 +330,7 @@ impl Buffer {
         }
     }
 
-    /// Whether a region has these bytes.
+    /// Compares a region with `bytes`.
     #[inline(always)]
     pub(crate) fn has(&self, from: Region, bytes: &[u8]) -> bool
         requires { Inside (length self.now) from }
@@ -336,7 +343,7 @@ impl Buffer {
         }
     }
 
-    // The bytes, where they lie in one piece.
+    // Returns all bytes, if they lie in one piece.
     #[inline(always)]
     fn whole(&self) -> Option<&[u8]>
         ensures { IfSome result (λ bytes. bytes.now ≡ self.now) }
@@ -348,7 +355,8 @@ impl Buffer {
         }
     }
 
-    /// The combination of two regions' bytes. Few bytes that lie together are combined where they lie. Only NoMemory is refused.
+    /// Combines two regions. A few bytes that lie together are combined where they lie. The only
+    /// refusal is NoMemory.
     fn combination(
         &mut self,
         alloc: Global,
@@ -379,7 +387,7 @@ impl Buffer {
         combined(alloc, op, ty, &first, &second)
     }
 
-    /// Copies or combines within the buffer. Only NoMemory is refused.
+    /// Carries out a Copy or a Combine within the buffer. The only refusal is NoMemory.
     pub(crate) fn act(&mut self, alloc: Global, action: Action) -> Result<(), Refusal>
         requires fits { Fits (length self.old) action }
         requires local { IsLocal action }
@@ -408,8 +416,9 @@ impl Buffer {
         }
     }
 
-    /// Takes a region's bytes out, with room for a copy of them, and leaves none. Where another owner of such bytes is known, it is handed
-    /// out, and segments go unread. It takes no memory, and copies only what lies together.
+    /// Takes the outcome's region out, together with memory for a copy of it, and leaves an empty
+    /// buffer. If another owner of the same bytes is known, it is handed out, and the segments go
+    /// unread. Takes no memory, and copies only bytes that lie together.
     #[inline(always)]
     pub(crate) fn take(
         &mut self,

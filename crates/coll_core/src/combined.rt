@@ -12,7 +12,7 @@ use std::alloc::{AllocError, Global};
 /// Long rows are combined in blocks of this many bytes (bench/RESULTS.md, "Memory").
 const BLOCK: usize = 8_192;
 
-/// The combination of two operands of a few bytes, `left` being the first. It takes no memory.
+/// Combines two operands of up to `FEW` bytes; `left` is the first operand. Takes no memory.
 #[inline(always)]
 pub(crate) fn combined_few(op: Op, ty: Datatype, left: &[u8], right: &[u8]) -> Bytes
     requires few { length left.now ≤ FEW }
@@ -29,7 +29,8 @@ pub(crate) fn combined_few(op: Op, ty: Datatype, left: &[u8], right: &[u8]) -> B
     Bytes::few(out)
 }
 
-/// Appends the combination of two rows: the first is copied to the end, and combined with the second there.
+/// Appends the combination of two rows: copies the first to the end, and combines it there with the
+/// second.
 fn append_combination(
     op: Op,
     ty: Datatype,
@@ -48,8 +49,8 @@ fn append_combination(
     Ok(())
 }
 
-/// The combination of two rows, made block by block: a block is still in the cache when it is combined after its copy, and no zeros are
-/// written before it.
+/// Combines two rows block by block. A block is still in the cache when it is combined after its
+/// copy, and no zeros are written before it.
 fn combined_row(
     alloc: Global,
     op: Op,
@@ -73,8 +74,9 @@ fn combined_row(
     Ok(row)
 }
 
-/// The combination of two operands, `left` being the first. Refuses NoMemory alone; a few bytes take no memory. The block of a long result
-/// counts its owners, since it is sent on or becomes the outcome.
+/// Combines two operands; `left` is the first. The only refusal is NoMemory; up to `FEW` bytes take
+/// no memory. The block of a long result counts its owners, because the result is sent on or
+/// becomes the outcome.
 #[inline(always)]
 pub(crate) fn combined(
     alloc: Global,

@@ -1,4 +1,4 @@
-//! The members of each communicator, and which of them a rank is.
+//! The groups of communicators.
 
 ghost use Rattle.std.specs.Prelude.{◌≡◌, ◌<◌, ◌≤◌, Some, length, IfErr, IfOk};
 ghost use Rattle.std.specs.Result.{result_err};
@@ -13,16 +13,17 @@ use coll_kinds::{Refusal, member_of};
 use std::alloc::Global;
 use std::marker::Model;
 
-/// A rank's seat in a communicator.
+/// A rank's membership in a communicator.
 #[derive(Clone, Copy, Debug, PartialEq, Eq)]
 pub struct Seat {
-    /// How many members the communicator has.
+    /// The number of members.
     pub size: u8,
-    /// Which of them the rank is: a number below `size`.
+    /// The rank's member number, below `size`.
     pub member: u8,
 }
 
-/// The world ranks of each communicator, in the order of their member numbers. Contracts see them as lists.
+/// The world ranks of each communicator, in the order of their member numbers. Contracts see them
+/// as lists.
 #[derive(Drop)]
 pub struct Communicators {
     groups: Vec<Vec<u8>>,
@@ -39,7 +40,7 @@ impl Model for Communicators {
     ghost invariant = { λ c. AreFew (groups_seen c.groups.items) };
 }
 
-/// A copy of the groups. Takes time and memory for each member.
+/// Copies the groups. Takes time and memory linear in all members.
 ///
 /// # Errors
 ///
@@ -55,7 +56,7 @@ pub fn copied_groups(alloc: Global, groups: &[Vec<u8>]) -> Result<Vec<Vec<u8>>, 
     Ok(copy)
 }
 
-/// The members of a communicator.
+/// Returns the members of a communicator.
 fn group_of(groups: &[Vec<u8>], comm: u32) -> &[u8]
     requires { comm < length groups.now }
     ensures { result.now ≡ group_in (groups_seen groups.now) comm }
@@ -64,7 +65,7 @@ fn group_of(groups: &[Vec<u8>], comm: u32) -> &[u8]
 }
 
 impl Communicators {
-    /// Those of a configuration. Takes time and memory for each member.
+    /// Takes the communicators of a configuration. Linear in all members, in time and memory.
     ///
     /// # Errors
     ///
@@ -78,7 +79,7 @@ impl Communicators {
         Ok(Communicators { groups })
     }
 
-    /// A copy of these. Takes time and memory for each member.
+    /// Copies the communicators. Linear in all members, in time and memory.
     ///
     /// # Errors
     ///
@@ -91,11 +92,11 @@ impl Communicators {
         Ok(Communicators { groups })
     }
 
-    /// A rank's seat in a communicator. Linear in the group.
+    /// Returns a rank's membership in a communicator. Linear in the group.
     ///
     /// # Errors
     ///
-    /// BadComm where there is no such communicator, then NotMember where the rank isn't in its group.
+    /// BadComm if there is no such communicator, then NotMember if the rank isn't in its group.
     pub fn seat(&self, comm: u32, rank: u8) -> Result<Seat, Refusal>
         ensures size { IfOk result (λ seat. seat.size ≡ length (group_in self.now comm)) }
         ensures member { IfOk result (λ seat. member_of rank (group_in self.now comm) ≡ Some seat.member) }

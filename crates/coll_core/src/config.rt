@@ -8,25 +8,25 @@ use coll_kinds::{ConfigField, Refusal, member_of};
 /// What an engine is opened with.
 #[derive(Debug, Drop)]
 pub struct Config {
-    /// How many world ranks there are: 1 to 64. They are the numbers below it.
+    /// The number of world ranks, 1 to 64. The ranks are the numbers below it.
     pub ranks: u8,
-    /// The world ranks of each communicator, in the order of their member numbers: 1 to 16 communicators, each of one
-    /// rank or more, none twice.
+    /// The world ranks of each communicator, in the order of their member numbers. There are 1 to
+    /// 16 communicators, each with at least one rank and none twice.
     pub groups: Vec<Vec<u8>>,
-    /// The most live requests at one time: 1 to 4,096.
+    /// The most live requests at one time, 1 to 4,096.
     pub slots: u32,
-    /// The most posts and initialisations of one member on one communicator: 1 to 65,536.
+    /// The most posts and initialisations of one member on one communicator, 1 to 65,536.
     pub places: u32,
-    /// How many requests one slot is given to, one after the other: 1 or more.
+    /// How many requests may use one slot, one after the other: 1 or more.
     pub wear: u32,
-    /// The most starts of one request: 1 to 1,048,576.
+    /// The most starts of one request, 1 to 1,048,576.
     pub starts: u32,
-    /// The most entries of the trace: 2 to 1,048,576.
+    /// The most entries of the trace, 2 to 1,048,576.
     pub trace: u32,
 }
 
 impl Config {
-    /// Tests the fields, in the order in which they are declared.
+    /// Checks the fields in the order of their declaration.
     ///
     /// # Errors
     ///
@@ -41,7 +41,7 @@ impl Config {
         }
     }
 
-    /// The first field that is out of its range.
+    /// Returns the first field that is out of its range.
     fn misfit(&self) -> Option<ConfigField>
         ensures none { IsNone result → IsConfig self.now }
         ensures some { IfSome result (IsMisfit self.now) }
@@ -70,7 +70,7 @@ impl Config {
         None
     }
 
-    /// There are 1 to 16 groups, and each is one.
+    /// Tells whether there are 1 to 16 groups and each is a group.
     fn are_groups(&self) -> bool
         ensures { IsTrue result ↔ Fits self.now Groups }
     {
@@ -79,8 +79,8 @@ impl Config {
     }
 }
 
-/// Whether these are the members of a communicator of that many world ranks: at least one, each of them a rank, and
-/// none twice. Quadratic in the group.
+/// Tells whether `group` lists at least one rank, only ranks below `ranks`, and no rank twice.
+/// Quadratic in the group.
 fn is_group(ranks: u8, group: &[u8]) -> bool
     ensures { IsTrue result ↔ IsFullGroup ranks group.now }
 {

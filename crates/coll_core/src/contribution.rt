@@ -8,14 +8,15 @@ use std::marker::Model;
 /// Where the bytes lie.
 #[derive(Debug, Drop)]
 enum Given {
-    /// Fewer than 2^32, which may have several owners.
+    /// Fewer than 2^32 bytes, which may have several owners.
     Shareable(Bytes),
-    /// 2^32 or more. No collective takes as many, but a call that is refused hands them back.
+    /// 2^32 bytes or more. No collective takes so many, but a refused call hands them back.
     TooLong(Vec<u8>),
 }
 
-/// What a member gives to a collective: bytes of any length, which are never written again. So the engine's buffer, its messages, its
-/// outcomes and its trace share the memory in which the caller made them. Contracts see the bytes.
+/// What a member gives to a collective: MPI's send buffer, as immutable bytes. The engine's buffer,
+/// messages, outcomes and trace share the memory in which the caller made them. Contracts see the
+/// bytes.
 #[derive(Debug, Drop)]
 pub struct Contribution {
     given: Given,
@@ -33,7 +34,8 @@ impl Model for Contribution {
 }
 
 impl Contribution {
-    /// The bytes of a vector. It takes no memory; only up to 31 bytes are copied, and the vector's memory is free then.
+    /// Takes the bytes of a vector. Takes no memory. Up to 31 bytes are copied, and the vector is
+    /// freed.
     pub fn new(bytes: Vec<u8>) -> Contribution
         ensures { result ≡ bytes.items }
     {
@@ -45,7 +47,7 @@ impl Contribution {
         Contribution::of_bytes(Bytes::from_vec(bytes))
     }
 
-    /// Bytes that may have other owners, as those of an outcome. Nothing is copied.
+    /// Takes bytes that may have other owners, for example those of an outcome. Copies nothing.
     pub fn of_bytes(bytes: Bytes) -> Contribution
         ensures { result ≡ bytes }
     {
@@ -54,14 +56,14 @@ impl Contribution {
         }
     }
 
-    /// None, as a member gives that only receives.
+    /// Returns an empty contribution, for a member that only receives.
     pub fn empty() -> Contribution
         ensures { result ≡ [] }
     {
         Contribution::of_bytes(Bytes::empty())
     }
 
-    /// A copy of bytes. Up to 31 take no memory.
+    /// Copies bytes. Up to 31 take no memory.
     ///
     /// # Errors
     ///
@@ -76,7 +78,7 @@ impl Contribution {
         Ok(Contribution::new(Vec::from_slice(alloc, bytes)?))
     }
 
-    /// The bytes.
+    /// Returns the bytes.
     pub fn as_slice(&self) -> &[u8]
         ensures { result.now ≡ self.now }
     {
@@ -86,7 +88,7 @@ impl Contribution {
         }
     }
 
-    /// How many there are.
+    /// Returns the number of bytes.
     pub fn len(&self) -> usize
         ensures { result ≡ length self.now }
     {
@@ -96,11 +98,11 @@ impl Contribution {
         }
     }
 
-    /// A second owner of the bytes, which copies up to 31 of them and no more (`Bytes::share`).
+    /// Returns a second owner of the bytes. Copies at most 31 bytes (`Bytes::share`).
     ///
     /// # Errors
     ///
-    /// NoMemory, to count the owners.
+    /// NoMemory for the count of owners.
     #[inline(always)]
     pub fn share(&mut self, alloc: Global) -> Result<Bytes, Refusal>
         requires { length self.old < 2 ^ 32 }
@@ -114,7 +116,7 @@ impl Contribution {
         }
     }
 
-    /// The bytes themselves, with the owners that they have.
+    /// Returns the bytes with their owners.
     pub fn into_bytes(self) -> Bytes
         requires { length self < 2 ^ 32 }
         ensures { result ≡ self }

@@ -1,4 +1,4 @@
-//! The engine's state, and the questions on it.
+//! The engine's state, and queries on it.
 
 mod committing;
 mod posting;
@@ -36,7 +36,8 @@ use coll_queues::Queues;
 use std::alloc::Global;
 use std::marker::Model;
 
-/// The engine's core: live requests on their lists, the posting lists, what members gave and sent, and memory that serves again.
+/// The engine: live requests on their lists, the posting lists, what members gave and sent, and
+/// memory that is used again.
 #[derive(Drop)]
 pub struct Core {
     alloc: Global,
@@ -46,7 +47,7 @@ pub struct Core {
     arena: Arena<Request>,
     queues: Queues,
     matches: Matches,
-    /// Long results of an instance that others of its members may share. No contract sees it.
+    /// Long results that other members of the instance may share. No contract sees them.
     results: Option<Box<InstanceResults>>,
 }
 
@@ -61,7 +62,8 @@ impl Model for Core {
 }
 
 impl Core {
-    /// An engine without requests. Takes time and memory for each slot, communicator and member.
+    /// Opens an engine without requests. Takes time and memory linear in slots, communicators and
+    /// members.
     ///
     /// # Errors
     ///
@@ -88,7 +90,7 @@ impl Core {
         })
     }
 
-    /// The request that a ticket names, if it is the rank's.
+    /// Returns the request that a ticket names, if it is the rank's.
     fn named(&self, rank: u8, ticket: Ticket) -> Result<&Request, Refusal>
         ensures refused { result_err result ≡ refusal (setting self.now) (seen self.now).state (Retire rank ticket) }
         ensures named { OnOk result (names self.now.arena ticket ≡ true) }
@@ -104,11 +106,11 @@ impl Core {
         Ok(request)
     }
 
-    /// How far a request is. It takes constant time.
+    /// Returns the phase of a request. Takes constant time.
     ///
     /// # Errors
     ///
-    /// Stale where the ticket names no live request, then NotYours where it is another rank's.
+    /// Stale if the ticket names no live request, then NotYours if it names another rank's.
     pub fn phase(&self, rank: u8, ticket: Ticket) -> Result<Phase, Refusal>
         ensures refused { result_err result ≡ refusal (setting self.now) (seen self.now).state (Retire rank ticket) }
         ensures phase { IfOk result (λ phase. phase_in (seen self.now) ticket ≡ Some phase) }
@@ -123,7 +125,7 @@ impl Core {
         Ok(Phase::Pending)
     }
 
-    /// What a ticket names; none where that is no live request.
+    /// Returns what a ticket's request is; None if the ticket names no live request.
     pub fn about(&self, ticket: Ticket) -> Option<About>
         ensures { result ≡ about_in (seen self.now) ticket }
     {
@@ -140,7 +142,8 @@ impl Core {
         })
     }
 
-    /// The bytes that active requests lend to the engine, given and got together.
+    /// Returns the number of bytes lent to the engine (in flight): what active requests give and
+    /// will get.
     pub fn lent(&self) -> u64
         ensures { result ≡ lent_bytes (setting self.now) (seen self.now).state }
     {
@@ -148,49 +151,50 @@ impl Core {
         self.arena.lent()
     }
 
-    /// How many requests are ready.
+    /// Returns the number of ready requests.
     pub fn ready_count(&self) -> u32
         ensures { result ≡ length (ready self.now) }
     {
         self.arena.len(ListName::Ready)
     }
 
-    /// Whether no request is ready and no combination is handed out.
+    /// Tells whether the engine is quiet: no request is ready and no combination is handed out.
     pub fn quiet(&self) -> bool
         ensures { IsTrue result ↔ IsQuiet self.now }
     {
         self.arena.first(ListName::Ready).is_none() && self.arena.first(ListName::Running).is_none()
     }
 
-    /// The requests' slots, for the laws.
+    /// Returns the requests' slots, for the laws.
     pub(crate) fn arena(&self) -> &Arena<Request>
         ensures { result.now ≡ self.now.arena }
     {
         &self.arena
     }
 
-    /// What holds of every engine between its calls, for the laws.
+    /// States the invariant between calls, for the laws. Does nothing at run time.
     pub(crate) fn check_between(&self)
         ensures { BetweenCalls self.now }
     {
         is_sound(&self.arena);
     }
 
-    /// What is handed out was read in lock-step, for the laws.
+    /// States that handed-out operands are those of lock-step, for the laws. Does nothing at run
+    /// time.
     pub(crate) fn check_operands(&self)
         ensures { (work : Piece) → IsOut self.now work → OfLockStep self.now work }
     {
         let _arena = &self.arena;
     }
 
-    /// What holds of every engine, for the laws.
+    /// States the engine's invariant, for the laws. Does nothing at run time.
     pub(crate) fn check(&self)
         ensures { IsSound (tables self.now) }
     {
         let _arena = &self.arena;
     }
 
-    /// Nothing can go on where no request is ready and no combination is handed out.
+    /// States what holds of a quiet engine, for the laws. Does nothing at run time.
     pub(crate) fn check_quiet(&self)
         ensures { IsQuiet self.now → NothingGoes (tables self.now) }
     {

@@ -1,4 +1,4 @@
-//! What may lie in a cell for a result.
+//! The rule for what may lie in a result cell.
 
 ghost use Rattle.std.specs.Prelude.{◌≡◌};
 

@@ -1,4 +1,4 @@
-//! Laws of the engine. A call does nothing; its contract is the law.
+//! Theorems about the engine. A call does nothing at run time; its contract is the theorem.
 
 ghost use Rattle.std.specs.Prelude.{◌<◌};
 ghost use Rattle.coll_refinement.specs.FreeLocks.{FreeLock};
@@ -15,9 +15,10 @@ use crate::engine::Core;
 use coll_arena::{ListName, laws as arena_laws};
 use coll_lists::Columns;
 
-/// Between calls, in the words of the machine and of the lists: each slot stands once on one list, which names its request's
-/// phase and what that waits for; any two posting lists agree, and live requests stand for their entries; what is Done
-/// holds its value; and the sum of lent bytes is that over the active requests.
+/// The invariant between calls, in the words of the machine and of the lists. Each slot stands on
+/// one list, once, which names its request's phase and what the request waits for. Any two posting
+/// lists of a communicator agree, and each live request stands for its entry. Each Done request
+/// holds its value. The lent bytes are the sum over the active requests.
 pub fn between_calls(core: &Core)
     ensures { BetweenCalls core.now }
 {
@@ -32,23 +33,23 @@ pub fn is_well_linked(core: &Core, list: ListName) -> &Columns
     arena_laws::is_well_linked(core.arena(), list)
 }
 
-/// What `between_calls` says of requests and posting lists, in the words of the tables.
+/// What `between_calls` says of requests and posting lists, in the words of `coll_refinement`.
 pub fn lock_is_free(core: &Core)
     ensures { FreeLock (tables core.now) }
 {
     core.check();
 }
 
-/// The operands of a combination that is handed out are what its member has there in lock-step, over all that was given to
-/// its start.
+/// The operands of a handed-out combination are the member's operands in lock-step, over all that
+/// was given to its start.
 pub fn operands_are_of_lock_step(core: &Core)
     ensures { (work : Piece) → IsOut core.now work → OfLockStep core.now work }
 {
     core.check_operands();
 }
 
-/// Where no request is ready and no combination is handed out, each start to which all members have given is Done at
-/// each member that works on it.
+/// In a quiet engine each start to which all members have given is Done at each member that works
+/// on it.
 pub fn quiet_is_finished(core: &Core)
     ensures { IsQuiet core.now → IsFinished core.now }
 {
@@ -56,8 +57,8 @@ pub fn quiet_is_finished(core: &Core)
     core.check_quiet();
 }
 
-/// A start is Done at a member that works on it only where all have given from whom the member hears by the end of its schedule;
-/// and where no request is ready and no combination is handed out, also wherever they have.
+/// A start is Done at a member only if all members have given on whom that member's result depends
+/// through its schedule. In a quiet engine it is Done whenever they have.
 pub fn done_once_heard(core: &Core)
     ensures { AreDoneOnceHeard core.now }
 {

@@ -1,29 +1,30 @@
-//! The engine's core: requests for collectives, their progress step by step, and their completion.
+//! The engine: requests for collectives, their matching, their progress action by action, and their
+//! completion. Each call is proved to be a step of `coll_machine`'s abstract machine.
 //!
 //! | Module | Has |
 //! |---|---|
-//! | `config` | `Config`, what an engine is opened with |
-//! | `communicators` | `Communicators`, the members of each communicator, and `Seat`, which of them a rank is |
-//! | `contribution` | `Contribution`, what a member gives to a collective |
-//! | `offer` | `Offer`, what a post hands in |
-//! | `phase` | `Phase`, how far a request is |
-//! | `about` | `About`, what a ticket names |
-//! | `outcome` | `Outcome`, what a completion hands out |
-//! | `buffer` | `Buffer`, the bytes that a schedule's actions read and write |
-//! | `row` | `Row`, a short buffer's bytes, in place |
-//! | `long` | `Long`, a long buffer's bytes, and the combination of them whose result is awaited |
-//! | `request` | `Request`, what the engine keeps of a live request |
-//! | `sent` | `Sent`, the way of a message |
-//! | `shared_result` | results of long combinations that several members need |
-//! | `result_cell` | `ResultCell`, where the result of a combination that was handed out is put and found |
-//! | `expected` | what may lie there |
+//! | `config` | `Config`: what an engine is opened with |
+//! | `communicators` | `Communicators`: the groups; `Seat`: a rank's membership in one |
+//! | `contribution` | `Contribution`: what a member gives to a collective |
+//! | `offer` | `Offer`: what a post hands in |
+//! | `phase` | `Phase`: how far a request is |
+//! | `about` | `About`: what a ticket's request is |
+//! | `outcome` | `Outcome`: what a completion hands out |
+//! | `buffer` | `Buffer`: the bytes that a schedule's actions read and write |
+//! | `row` | `Row`: a short buffer's bytes, in place |
+//! | `long` | `Long`: a long buffer's bytes, and the combination whose result is awaited |
+//! | `request` | `Request`: what the engine keeps of a live request |
+//! | `sent` | `Sent`: the path of a message |
+//! | `shared_result` | long results that several members need |
+//! | `result_cell` | `ResultCell`: where the result of a handed-out combination comes back |
+//! | `expected` | the rule for what may lie in a result cell |
 //! | `combined` | the combination of two operands, as `Bytes` |
-//! | `work` | `Work` and `DoneWork`, a combination that is computed outside the engine |
-//! | `short_work` | `ShortWork` and `DoneShortWork`, the same of a few bytes, by value |
-//! | `word` | `Word`, up to eight bytes |
-//! | `stepped` | `Stepped`, what a step did |
+//! | `work` | `Work`, `DoneWork`: a combination that is computed outside the engine |
+//! | `short_work` | `ShortWork`, `DoneShortWork`: one of up to eight bytes, by value |
+//! | `word` | `Word`: up to eight bytes |
+//! | `stepped` | `Stepped`: what a step did |
 //! | `engine` | `Core`, with its calls by what they do |
-//! | `laws` | what holds of an engine between its calls |
+//! | `laws` | theorems about an engine between its calls |
 //!
 //! ```
 //! let plan = plan(alloc, Signature::allreduce(Op::Sum, Datatype::I32, 1), 1, 0)?;

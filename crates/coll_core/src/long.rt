@@ -1,4 +1,4 @@
-//! A long buffer's bytes, and the combination of them whose result is awaited.
+//! The bytes of a long buffer, and the combination whose result is awaited in a cell.
 
 ghost use Rattle.std.specs.Prelude.{◌≡◌, ◌<◌, ◌≤◌, ◌↔◌, length, IfOk, IfSome, IsOk, IsTrue};
 ghost use Rattle.std.specs.Option.{ForSome};
@@ -12,7 +12,7 @@ use coll_kinds::{Datatype, Op};
 use coll_sched::Region;
 use std::alloc::{AllocError, Global};
 
-/// A combination of two regions, and where its result is put.
+/// A combination of two regions, and the cell for its result.
 #[derive(Debug, Drop)]
 pub(crate) struct Awaited {
     pub(crate) op: Op,
@@ -23,7 +23,7 @@ pub(crate) struct Awaited {
 }
 
 impl Awaited {
-    /// Whether it is that combination of these regions.
+    /// Tells whether it combines these regions by this operation and type.
     pub(crate) fn is_of(&self, op: Op, ty: Datatype, left: Region, right: Region) -> bool
         ensures { IsTrue result ↔ ((self.now.op ≡ op) × (self.now.ty ≡ ty) × (self.now.left ≡ left) × (self.now.right ≡ right)) }
     {
@@ -31,13 +31,13 @@ impl Awaited {
     }
 }
 
-/// What a long buffer has until its bytes lie together.
+/// The contents of a long buffer until its bytes are put together.
 #[derive(Debug, Drop)]
 pub(crate) struct Long {
     pub(crate) segments: Segments,
-    /// In which an outcome that is put together counts its owners.
+    /// The count of owners for an outcome that is put together.
     pub(crate) shell: Shell,
-    /// The combination that was handed out last, until something is written.
+    /// The combination that was handed out last, until the buffer is written to.
     awaited: Option<Awaited>,
     ghost awaits: { ForSome awaited (λ a. a.cell ≡ combination_of a.op a.ty (read_of segments.bytes a.left) (read_of segments.bytes a.right)) },
 }
@@ -53,7 +53,7 @@ impl Long {
         }
     }
 
-    /// Puts bytes in place of a region's. Nothing is awaited then.
+    /// Replaces a region's bytes. Nothing is awaited after that.
     #[inline(always)]
     pub(crate) fn put(&mut self, into: Region, bytes: Bytes)
         requires inside { Inside (length self.old.segments.bytes) into }
@@ -65,7 +65,7 @@ impl Long {
         self.segments.put(into, bytes);
     }
 
-    /// The bytes of a region, shared where one segment has them, else copied.
+    /// Returns an owner of a region's bytes: shared if they lie in one segment, else copied.
     #[inline(always)]
     pub(crate) fn part(&mut self, alloc: Global, from: Region) -> Result<Bytes, AllocError>
         requires { Inside (length self.old.segments.bytes) from }
@@ -76,7 +76,7 @@ impl Long {
         self.segments.part(alloc, from)
     }
 
-    /// Awaits the result of a combination, in place of another's.
+    /// Replaces the combination whose result is awaited.
     pub(crate) fn set_awaited(&mut self, awaited: Option<Awaited>)
         requires { ForSome awaited (λ a. a.cell ≡ combination_of a.op a.ty (read_of self.old.segments.bytes a.left) (read_of self.old.segments.bytes a.right)) }
         ensures { self.new.segments ≡ self.old.segments }
@@ -84,7 +84,7 @@ impl Long {
         self.awaited = awaited;
     }
 
-    /// The combination whose result is awaited.
+    /// Returns the combination whose result is awaited.
     pub(crate) fn awaited(&self) -> Option<&Awaited>
         ensures { IfSome result (λ a. a.now.cell ≡ combination_of a.now.op a.now.ty (read_of self.now.segments.bytes a.now.left) (read_of self.now.segments.bytes a.now.right)) }
     {

@@ -17,11 +17,11 @@ pub struct Offer {
 }
 
 impl Offer {
-    /// The offer of these numbers, of which each has four bytes.
+    /// Offers these numbers, four bytes each.
     ///
     /// # Errors
     ///
-    /// NoMemory. The plan is then gone; a member's plan can be made again at any time.
+    /// NoMemory. The plan is dropped then; a plan can be made again at any time.
     pub fn of_i32s(alloc: Global, plan: Plan, numbers: &[i32]) -> Result<Offer, Refusal>
         ensures plan { IfOk result (λ offer. offer.plan ≡ plan) }
         ensures bytes { IfOk result (λ offer. offer.bytes ≡ number_bytes numbers.now) }
@@ -37,9 +37,10 @@ impl Offer {
         })
     }
 
-    /// The schedule's buffer with the contribution laid in, which `Core::post_laid` takes. A long buffer shares it, and else copies it. It
-    /// needs no engine, so it can be made before a lock is taken. Where the contribution hasn't the length that the plan's member gives,
-    /// which a post refuses, the buffer has no bytes.
+    /// Makes the schedule's buffer with the contribution, for `Core::post_laid`. A long buffer
+    /// shares the contribution, a short one copies it. No engine is needed, so the buffer can be
+    /// made before a lock is taken. If the contribution has the wrong length, which a post refuses,
+    /// the buffer is empty.
     ///
     /// # Errors
     ///

@@ -5,27 +5,27 @@ use coll_bytes::Bytes;
 use coll_kinds::Refusal;
 use std::alloc::Global;
 
-/// What the completion of a request hands out.
+/// What a completion hands out: the bytes for MPI's receive buffer, and whose they are.
 #[derive(Debug, Drop)]
 pub struct Outcome {
-    /// The world rank whose request it was.
+    /// The world rank that owned the request.
     pub rank: u8,
     pub comm: u32,
     /// The request's index in its member's posting list on the communicator.
     pub place: u32,
-    /// How many of its starts were completed before.
+    /// The number of the start, which is the number of starts completed before it.
     pub start: u32,
-    /// The collective's value at the member. They may be a part of memory that messages and other outcomes share.
+    /// The collective's value at the member. Messages and other outcomes may share its memory.
     pub bytes: Bytes,
 }
 
 impl Outcome {
-    /// The numbers whose bytes the outcome has, in order, where the collective's type is `i32`.
+    /// Returns the outcome as numbers, for a collective over `i32`.
     ///
     /// # Errors
     ///
-    /// BadLength, where the length is no multiple of four, so that the bytes aren't numbers: the last number wants four bytes,
-    /// and has got those that are left. NoMemory.
+    /// BadLength if the length is no multiple of four: four bytes were wanted, and the rest was
+    /// left. NoMemory.
     pub fn i32s(&self, alloc: Global) -> Result<Vec<i32>, Refusal>
         ensures numbers { IfOk result (λ numbers. number_bytes numbers.items ≡ self.now.bytes) }
         ensures refused { IfErr result (λ why.

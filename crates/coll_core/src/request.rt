@@ -29,25 +29,25 @@ use std::alloc::Global;
 /// What the engine keeps of a live request.
 #[derive(Debug, Drop)]
 pub(crate) struct Request {
-    /// The world rank whose it is.
+    /// The world rank that owns the request.
     pub(crate) rank: u8,
     pub(crate) comm: u32,
-    /// The index in the member's posting list on the communicator.
+    /// The request's index in its member's posting list on the communicator.
     pub(crate) place: u32,
-    /// Where what its members gave lies, for quick look-ups: a hint of `Matches`.
+    /// Where the instance's contributions lie: a hint for look-ups of `Matches`.
     pub(crate) hint: usize,
     pub(crate) plan: Plan,
-    /// How often it was started.
+    /// How often the request was started.
     pub(crate) starts: u32,
-    /// The round of its next action, and the action's index there.
+    /// The round of the next action, and the action's index in it.
     pub(crate) round: usize,
     pub(crate) index: usize,
-    /// The schedule's buffer; empty where the request isn't active.
+    /// The schedule's buffer; empty while the request is inactive.
     pub(crate) buffer: Buffer,
 }
 
 impl Request {
-    /// The instance of the start under way, or of the last one; of the first where it was never started.
+    /// Returns the instance of the current start, else of the last start, else of the first.
     pub(crate) fn key(&self) -> Key
         ensures { result ≡ key (shown self.now) }
     {
@@ -58,7 +58,7 @@ impl Request {
         }
     }
 
-    /// The next action; none after the last.
+    /// Returns the next action; None after the last.
     pub(crate) fn next(&self) -> Option<Action>
         ensures is { result ≡ next_of (shown self.now) }
         ensures fits { IfSome result (λ action. Fits (schedule (shown self.now)).size action) }
@@ -67,8 +67,8 @@ impl Request {
         self.plan.schedule().action(self.round, self.index)
     }
 
-    /// The list where an active request belongs, by its next action and by whether the message that this one waits for
-    /// is there.
+    /// Returns the list for an active request, from its next action and from whether the message
+    /// that it waits for is there.
     #[inline(always)]
     pub(crate) fn list(&self, matches: &Matches) -> ListName
         requires { IsPoint (schedule (shown self.now)) self.now.round self.now.index }
@@ -90,7 +90,8 @@ impl Request {
         }
     }
 
-    /// Whether it waits for a message that is there. For the message that was just sent no look-up is needed.
+    /// Tells whether the request waits for a message that is there. The message just sent needs no
+    /// look-up.
     pub(crate) fn can_receive(&self, matches: &Matches, sent: Sent) -> bool
         requires { IsSent matches.now sent }
         ensures { IsTrue result ↔ CanReceive (mail matches.now (key (shown self.now))) (shown self.now) }
@@ -107,7 +108,7 @@ impl Request {
         awaited == sent || matches.ready(awaited.key, self.hint, of, awaited.to, self.round)
     }
 
-    /// Goes past ends of rounds to the next action, or to the end.
+    /// Goes past the ends of rounds to the next action, or to the end.
     pub(crate) fn pass_ends(&mut self)
         requires round_in { self.old.round ≤ length (schedule (shown self.old)).rounds }
         requires index_in { self.old.index ≤ length (actions_of (schedule (shown self.old)) self.old.round) }
@@ -129,7 +130,7 @@ impl Request {
         self.pass_ends();
     }
 
-    /// The combination that comes next, with its operands. Only NoMemory is refused.
+    /// Returns the next combination with its operands. The only refusal is NoMemory.
     #[inline(always)]
     pub(crate) fn work(
         &mut self,
@@ -173,7 +174,7 @@ impl Request {
         Ok(work)
     }
 
-    /// The combination that comes next, with its operands of up to eight bytes. It takes no memory.
+    /// Returns the next combination with operands of up to eight bytes. Takes no memory.
     #[inline(always)]
     pub(crate) fn short_work(&mut self, alloc: Global, ticket: Ticket, action: Action) -> ShortWork
         requires next { next_of (shown self.old) ≡ Some action }
@@ -199,7 +200,7 @@ impl Request {
         ShortWork::new(ticket, self.round, self.index, op, ty, first, second)
     }
 
-    /// The next action is the work's combination, with the same operands.
+    /// Tells whether the next action is the combination of `work`, with the same operands.
     #[inline(always)]
     pub(crate) fn stands_at_short(&self, work: &ShortWork) -> bool
         requires { length self.now.buffer ≡ (schedule (shown self.now)).size }
@@ -226,7 +227,7 @@ impl Request {
         self.buffer.has(left, work.left()) && self.buffer.has(right, work.right())
     }
 
-    /// The next action is the work's combination, with the same operands.
+    /// Tells whether the next action is the combination of `work`, with the same operands.
     #[inline(always)]
     pub(crate) fn stands_at(&self, work: &Work) -> bool
         requires { length self.now.buffer ≡ (schedule (shown self.now)).size }
@@ -253,8 +254,9 @@ impl Request {
         self.buffer.has(left, work.left()) && self.buffer.has(right, work.right())
     }
 
-    /// The result of the combination that comes next, if the work is of it: what was put into its place, if the work has the place's other
-    /// owner, or else the work's, whose operands have the same bytes then.
+    /// Returns the result of the next combination, if `done` belongs to it. If the work owns the
+    /// other half of the request's own cell, that is the result in the cell. Else the operands of
+    /// `done` are compared, and its result is taken.
     pub(crate) fn result_by(&self, done: DoneWork) -> Option<Bytes>
         requires { length self.now.buffer ≡ (schedule (shown self.now)).size }
         ensures own { IfSome result (IsOwnResult (shown self.now) done.piece) }
@@ -273,8 +275,8 @@ impl Request {
         None
     }
 
-    /// The result that was put into the place for that of the combination that comes next, if the work names it and has that place's other
-    /// owner: work of another engine may name the same action.
+    /// Returns the result in the cell of the next combination, if the work names that combination
+    /// and owns the cell's other half. Work of another engine may name the same action.
     #[inline(always)]
     fn own_result(&self, work: &Work, cell: Option<ResultCell>) -> Option<Bytes>
         ensures { IfSome result (IsOwnResult (shown self.now) work.now) }
@@ -305,7 +307,7 @@ impl Request {
         awaited.cell.result()
     }
 
-    /// Writes the result of the combination that comes next.
+    /// Writes the result of the next combination.
     pub(crate) fn write(&mut self, bytes: Bytes)
         requires own { (work : Piece) × IsOwnResult (shown self.old) work bytes }
         requires sized { length self.old.buffer ≡ (schedule (shown self.old)).size }
@@ -317,7 +319,7 @@ impl Request {
         self.buffer.write(into, bytes);
     }
 
-    /// Writes the result of the combination that comes next.
+    /// Writes the result of the next combination.
     pub(crate) fn write_short(&mut self, done: DoneShortWork)
         requires stands { StandsAt (shown self.old) done.piece }
         requires sized { length self.old.buffer ≡ (schedule (shown self.old)).size }
@@ -330,8 +332,9 @@ impl Request {
         self.buffer.write(into, done.into_result());
     }
 
-    /// Takes the outcome out of the buffer, with room for a copy of it, and goes back to the first round. The buffer is empty then. Where
-    /// another owner of such bytes is known, it is handed out.
+    /// Takes the outcome out of the buffer, with memory for a copy of it, and goes back to the
+    /// first round. The buffer is empty after that. If another owner of the same bytes is known, it
+    /// is handed out.
     #[inline(always)]
     pub(crate) fn take_outcome(&mut self, alloc: Global, known: Option<Bytes>) -> (Bytes, Vec<u8>)
         requires inside { Inside (length self.old.buffer) (schedule (shown self.old)).output }
@@ -347,14 +350,14 @@ impl Request {
     }
 }
 
-/// Whether the work is of that operation and type.
+/// Tells whether the work is of this operation and type.
 fn are_alike_short(op: Op, ty: Datatype, work: &ShortWork) -> bool
     ensures { IsTrue result ↔ ((op ≡ work.now.op) × (ty ≡ work.now.ty)) }
 {
     op == work.op() && ty == work.ty()
 }
 
-/// Whether the work is of that operation and type.
+/// Tells whether the work is of this operation and type.
 fn are_alike(op: Op, ty: Datatype, work: &Work) -> bool
     ensures { IsTrue result ↔ ((op ≡ work.now.op) × (ty ≡ work.now.ty)) }
 {

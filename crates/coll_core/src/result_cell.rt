@@ -1,4 +1,4 @@
-//! Where the result of a combination that was handed out is put by whoever computes it, and found by the engine.
+//! The cell in which the result of a handed-out combination comes back to the engine.
 
 ghost use Rattle.std.specs.Prelude.{◌≡◌, IfSome};
 
@@ -12,7 +12,8 @@ use std::fmt::Write;
 use std::marker::Model;
 use std::sync::Arc;
 
-/// An owner of a place for certain bytes, of which there are two: the place is empty, or has the bytes. It takes no lock.
+/// One of the two owners of a cell for certain bytes: the cell is empty or holds them. It takes no
+/// lock.
 #[derive(Drop)]
 pub(crate) struct ResultCell {
     slot: Arc<OnceSlot<Bytes, IsTag>>,
@@ -34,7 +35,7 @@ impl fmt::Debug for ResultCell {
 }
 
 impl ResultCell {
-    /// An empty one for the bytes of a tag, and a second owner of it. None where memory is refused.
+    /// Makes an empty cell for the bytes of a tag, with two owners. None if memory is refused.
     pub(crate) fn pair(alloc: Global, tag: &Tag) -> Option<(ResultCell, ResultCell)>
         ensures { IfSome result (λ both. (both.0 ≡ tag.now.numbers) × (both.1 ≡ tag.now.numbers)) }
     {
@@ -43,7 +44,7 @@ impl ResultCell {
         Some((ResultCell { slot }, ResultCell { slot: other }))
     }
 
-    /// Puts the bytes there, unless they have no second owner.
+    /// Puts the bytes into the cell, unless they can't have a second owner.
     pub(crate) fn fill(&self, bytes: &Bytes)
         requires { bytes.now ≡ self.now }
     {
@@ -52,14 +53,14 @@ impl ResultCell {
         }
     }
 
-    /// Gives an owner up. Returns whether it was the other owner of this one's place.
+    /// Drops an owner. Returns whether it was the other owner of this one's cell.
     pub(crate) fn was_shared_with(&self, other: ResultCell) -> bool {
         let owners = Arc::strong_count(&self.slot);
         drop(other);
         owners == 2 && Arc::strong_count(&self.slot) == 1
     }
 
-    /// The bytes, if they were put there.
+    /// Returns the bytes, if the cell has them.
     pub(crate) fn result(&self) -> Option<Bytes>
         ensures { IfSome result (λ bytes. bytes ≡ self.now) }
     {

@@ -6,10 +6,10 @@ use coll_bytes::{FEW, copy_few};
 use coll_sched::{Region, Schedule};
 use std::marker::Model;
 
-/// The bytes of a buffer of up to `FEW`, in place.
+/// The bytes of a buffer of up to `FEW` bytes, in place.
 #[derive(Debug, Drop)]
 pub(crate) struct Row {
-    /// None. The bytes lie where words do, so that they are moved as words.
+    /// An empty array, which aligns the bytes as words, so that they are moved as words.
     words: [u64; 0],
     row: [u8; FEW],
     len: u8,
@@ -38,7 +38,7 @@ fn write_few(into: Region, bytes: &[u8], buf: &mut [u8])
 }
 
 impl Row {
-    /// None.
+    /// Returns an empty row.
     pub(crate) fn empty() -> Row
         ensures { result ≡ [] }
     {
@@ -49,7 +49,7 @@ impl Row {
         }
     }
 
-    /// The schedule's buffer with the contribution laid in, and zeros elsewhere.
+    /// Makes the schedule's buffer: the contribution in its input region, zeros elsewhere.
     #[inline(always)]
     pub(crate) fn lay_in(schedule: &Schedule, bytes: &[u8]) -> Row
         requires few { schedule.now.size ≤ FEW }
@@ -66,7 +66,7 @@ impl Row {
         }
     }
 
-    /// Puts bytes in place of a region's.
+    /// Replaces a region's bytes.
     #[inline(always)]
     pub(crate) fn write(&mut self, into: Region, bytes: &[u8])
         requires inside { Inside (length self.old) into }
@@ -76,7 +76,7 @@ impl Row {
         write_few(into, bytes, &mut self.row[..self.len as usize]);
     }
 
-    /// The bytes.
+    /// Returns the bytes.
     #[inline(always)]
     pub(crate) fn as_slice(&self) -> &[u8]
         ensures value { result.now ≡ self.now }

@@ -1,4 +1,4 @@
-//! Results of long combinations that several members of an allreduce need: each of them combines the same operands.
+//! Long results that several members of an allreduce need: each of them combines the same operands.
 
 ghost use Rattle.std.specs.Prelude.{◌≡◌, IfSome};
 ghost use Rattle.coll_ops.specs.Combinations.{combined as combination};
@@ -14,10 +14,10 @@ use std::fmt::Write;
 use std::hint::spin_loop;
 use std::sync::Arc;
 
-/// A result of at least this many bytes is shared: the fewest for which a gain was measured.
+/// A result of at least this many bytes is shared. With fewer no gain was measured.
 pub(crate) const LONG: u32 = 4_096;
 
-/// The bytes of a result for which a member looks once whether another member has computed it, before it computes it itself.
+/// A member spins once per this many bytes of a result, before it computes the result itself.
 const BYTES_A_LOOK: usize = 64;
 
 /// A combination that was computed, with its operands.
@@ -32,7 +32,7 @@ struct Known {
 }
 
 impl Known {
-    /// The result, if it is that of these operands.
+    /// Returns the result, if its operands are these.
     fn result_of(&self, op: Op, ty: Datatype, left: &[u8], right: &[u8]) -> Option<Bytes>
         ensures { IfSome result (λ bytes. bytes ≡ combination op ty left.now right.now) }
     {
@@ -46,7 +46,7 @@ impl Known {
     }
 }
 
-/// Where the members that combine alike look for the result. The first of them computes it.
+/// Where members that combine the same operands look for the result. The first of them computes it.
 #[derive(Drop)]
 pub(crate) struct SharedResult {
     cell: Arc<OnceBox<Known>>,
@@ -60,8 +60,9 @@ impl fmt::Debug for SharedResult {
 }
 
 impl SharedResult {
-    /// The result of these operands, if another member has computed it. It is waited for about as long as computing it takes, since two
-    /// results take memory twice, which costs more than to compute one.
+    /// Returns the result of these operands, if another member has computed it. Waits for that
+    /// member about as long as the computation takes, because a second copy of the result costs
+    /// more than one computation.
     pub(crate) fn find(&self, op: Op, ty: Datatype, left: &[u8], right: &[u8]) -> Option<Bytes>
         ensures { IfSome result (λ bytes. bytes ≡ combination op ty left.now right.now) }
     {
@@ -73,7 +74,7 @@ impl SharedResult {
         known.result_of(op, ty, left, right)
     }
 
-    /// Looks up to this many times whether another member has computed the result.
+    /// Spins at most `looks` times until another member has computed the result.
     fn await_known(&self, looks: usize) {
         for _look in 0..looks {
             if self.cell.get().is_some() {
@@ -83,7 +84,7 @@ impl SharedResult {
         }
     }
 
-    /// Lets the others have a result. Where there is no memory for that, each computes its own.
+    /// Publishes a result to the other members. Without memory each member computes its own.
     pub(crate) fn tell(
         &self,
         alloc: Global,
@@ -126,14 +127,15 @@ struct Candidate {
     cell: Arc<OnceBox<Known>>,
 }
 
-/// The long combinations of an instance, until all members have left it or another instance has long ones.
+/// The long combinations of one instance, until all members have left it or another instance has
+/// some.
 #[derive(Drop)]
 pub(crate) struct InstanceResults {
     key: Key,
     candidates: Vec<Candidate>,
 }
 
-/// A few of the bytes, from all over them: zeros often lie together.
+/// Picks a few of the bytes from everywhere in the row, because zeros often lie together.
 fn sample(bytes: &Bytes) -> Bytes {
     let step = (bytes.len() as usize / FEW).max(1);
     let mut row = [0; FEW];
@@ -146,8 +148,8 @@ fn sample(bytes: &Bytes) -> Bytes {
 }
 
 impl InstanceResults {
-    /// Where the result of a combination is shared with the members that were handed one with the same samples of its operands, or may be
-    /// shared with later ones. None where memory is refused.
+    /// Returns where the result of a combination is shared: with the members whose operands had the
+    /// same samples, or with later ones. None if memory is refused.
     fn share(
         &mut self,
         alloc: Global,
@@ -187,7 +189,8 @@ impl Candidate {
     }
 }
 
-/// Where the result of a long combination of an instance is shared; none where memory is refused.
+/// Returns where the result of a long combination of an instance is shared; None if memory is
+/// refused.
 pub(crate) fn share(
     results: &mut Option<Box<InstanceResults>>,
     alloc: Global,
@@ -210,7 +213,7 @@ pub(crate) fn share(
     instance.share(alloc, round, sample(operands.0), sample(operands.1))
 }
 
-/// Gives up what is kept of an instance that is over.
+/// Drops what is kept of an instance that is over.
 #[inline(always)]
 pub(crate) fn forget(results: &mut Option<Box<InstanceResults>>, key: Key, is_over: bool) {
     let Some(instance) = results else {

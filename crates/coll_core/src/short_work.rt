@@ -1,4 +1,4 @@
-//! Combinations of a few bytes, which are handed out by value.
+//! Combinations of up to eight bytes, which are handed out by value.
 
 ghost use Rattle.std.specs.Prelude.{◌≡◌};
 ghost use Rattle.coll_core.specs.Works.{IsPiece, result_of};
@@ -8,8 +8,9 @@ use coll_bytes::Bytes;
 use coll_kinds::{Datatype, Op, Ticket};
 use std::marker::Model;
 
-/// A combination of operands of up to eight bytes that was handed out by value, to be computed outside the engine. It can't be dropped:
-/// `run` and then `commit_short` take it, and `discard` where its engine is gone.
+/// A combination of operands of up to eight bytes, handed out by value to be computed outside the
+/// engine. It can't be dropped: `run` and then `Core::commit_short` take it, or `discard` if its
+/// engine is gone.
 #[derive(Debug)]
 pub struct ShortWork {
     ticket: Ticket,
@@ -31,7 +32,8 @@ impl Model for ShortWork {
     ghost invariant = { λ w. IsPiece (record { ticket = w.ticket; round = w.round; index = w.index; op = w.op; ty = w.ty; left = w.left; right = w.right }) };
 }
 
-/// Such a combination with its result. It can't be dropped: `commit_short` takes it, and `discard` where its engine is gone.
+/// A `ShortWork` with its result. It can't be dropped: `Core::commit_short` takes it, or `discard`
+/// if its engine is gone.
 #[derive(Debug)]
 pub struct DoneShortWork {
     work: ShortWork,
@@ -50,7 +52,7 @@ impl Model for DoneShortWork {
 }
 
 impl ShortWork {
-    /// A combination of the request's action at a point, with its operands.
+    /// Makes a combination of a request's action, with its operands.
     pub(crate) fn new(
         ticket: Ticket,
         round: usize,
@@ -74,21 +76,21 @@ impl ShortWork {
         }
     }
 
-    /// The request whose action it is.
+    /// Returns the request whose action it is.
     pub fn ticket(&self) -> Ticket
         ensures { result ≡ self.now.ticket }
     {
         self.ticket
     }
 
-    /// The action's round.
+    /// Returns the action's round.
     pub fn round(&self) -> usize
         ensures { result ≡ self.now.round }
     {
         self.round
     }
 
-    /// The action's index in its round.
+    /// Returns the action's index in its round.
     pub fn index(&self) -> usize
         ensures { result ≡ self.now.index }
     {
@@ -107,21 +109,21 @@ impl ShortWork {
         self.ty
     }
 
-    /// The first operand.
+    /// Returns the first operand.
     pub fn left(&self) -> &[u8]
         ensures { result.now ≡ self.now.left }
     {
         self.left.as_slice()
     }
 
-    /// The second operand.
+    /// Returns the second operand.
     pub fn right(&self) -> &[u8]
         ensures { result.now ≡ self.now.right }
     {
         self.right.as_slice()
     }
 
-    /// Computes the combination. It takes no memory.
+    /// Computes the combination. Takes no memory.
     #[inline(always)]
     pub fn run(self) -> DoneShortWork
         ensures { result.piece ≡ self }
@@ -146,14 +148,14 @@ impl ShortWork {
 }
 
 impl DoneShortWork {
-    /// The work whose result it is.
+    /// Returns the work whose result it is.
     pub fn work(&self) -> &ShortWork
         ensures { result.now ≡ self.now.piece }
     {
         &self.work
     }
 
-    /// The combination of the work's operands.
+    /// Returns the combination of the work's operands.
     pub fn result(&self) -> &[u8]
         ensures is { result.now ≡ self.now.bytes }
         ensures combined { self.now.bytes ≡ result_of self.now.piece }
@@ -161,7 +163,7 @@ impl DoneShortWork {
         self.result.as_slice()
     }
 
-    /// The result, while the operands go.
+    /// Returns the result and drops the operands.
     #[inline(always)]
     pub(crate) fn into_result(self) -> Bytes
         ensures is { result ≡ self.bytes }

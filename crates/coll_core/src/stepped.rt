@@ -7,18 +7,18 @@ use crate::work::Work;
 /// What a step did. It can't be dropped, since it may have a combination.
 #[derive(Debug)]
 pub enum Stepped {
-    /// Nothing: no request is ready.
+    /// Nothing, because no request is ready.
     Quiet,
     /// One action of one request, which has more to do.
     Moved,
-    /// The last action of one request, which is now Done.
+    /// The last action of one request, which is Done now.
     Finished,
     /// It handed a combination out, which is to be committed or abandoned.
     Out(Work),
 }
 
 impl Stepped {
-    /// By whether the request is Done.
+    /// Returns `Finished` or `Moved`.
     pub(crate) fn by(finished: bool) -> Stepped
         ensures { result ≡ stepped_by finished }
     {

@@ -8,10 +8,10 @@ use coll_kinds::{Datatype, Op};
 use coll_ops::combine_into;
 use std::marker::Model;
 
-/// Operands of up to that many bytes are handed out by value.
+/// Operands of up to this many bytes are handed out by value.
 pub const WORD: usize = 8;
 
-/// Up to eight bytes.
+/// Up to eight bytes, by value.
 #[derive(Debug, Drop)]
 pub(crate) struct Word {
     len: u8,
@@ -29,7 +29,7 @@ impl Model for Word {
     ghost invariant = { λ w. (w.len ≤ WORD) × (w.len ≤ length w.row) };
 }
 
-/// The combination of two operands, `left` being the first.
+/// Combines two operands; `left` is the first.
 #[inline(always)]
 pub(crate) fn combined_words(op: Op, ty: Datatype, left: &Word, right: &Word) -> Word
     requires allowed { IsTrue (allowed op ty) }
@@ -43,7 +43,7 @@ pub(crate) fn combined_words(op: Op, ty: Datatype, left: &Word, right: &Word) ->
 }
 
 impl Word {
-    /// These bytes.
+    /// Copies up to eight bytes.
     pub(crate) fn of(bytes: &[u8]) -> Word
         requires { length bytes.now ≤ WORD }
         ensures { result ≡ bytes.now }
@@ -56,7 +56,7 @@ impl Word {
         }
     }
 
-    /// The bytes.
+    /// Returns the bytes.
     pub(crate) fn as_slice(&self) -> &[u8]
         ensures value { result.now ≡ self.now }
         ensures few { length self.now ≤ WORD }

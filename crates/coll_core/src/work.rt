@@ -10,8 +10,8 @@ use coll_kinds::{Datatype, Op, Refusal, Refused, Ticket};
 use std::alloc::Global;
 use std::marker::Model;
 
-/// A combination that was handed out, with its operands, to be computed outside the engine. It can't be dropped: `run`, `commit` and
-/// `abandon` take it, and `discard` where its engine is gone.
+/// A handed-out combination with its operands, to be computed outside the engine. It can't be
+/// dropped: `run`, `Core::commit` and `Core::abandon` take it, or `discard` if its engine is gone.
 #[derive(Debug)]
 pub struct Work {
     alloc: Global,
@@ -22,9 +22,9 @@ pub struct Work {
     ty: Datatype,
     left: Bytes,
     right: Bytes,
-    /// Where other members that combine the same look for the result.
+    /// Where other members that combine the same operands look for the result.
     shared: Option<SharedResult>,
-    /// Where the engine finds the result.
+    /// The cell in which the engine finds the result.
     cell: Option<ResultCell>,
 }
 
@@ -40,7 +40,7 @@ impl Model for Work {
         IsPiece piece × IfSome w.cell (λ cell. cell ≡ result_of piece) };
 }
 
-/// How the result of a work is read off it.
+/// Says what the result of a work is, for the cell's rule.
 struct ItsResult;
 
 impl Names<Work> for ItsResult {
@@ -66,7 +66,7 @@ impl Model for DoneWork {
 }
 
 impl Work {
-    /// A combination of the request's action at a point, with its operands.
+    /// Makes a combination of a request's action, with its operands.
     pub(crate) fn new(
         alloc: Global,
         ticket: Ticket,
@@ -95,21 +95,21 @@ impl Work {
         }
     }
 
-    /// The request whose action it is.
+    /// Returns the request whose action it is.
     pub fn ticket(&self) -> Ticket
         ensures { result ≡ self.now.ticket }
     {
         self.ticket
     }
 
-    /// The action's round.
+    /// Returns the action's round.
     pub fn round(&self) -> usize
         ensures { result ≡ self.now.round }
     {
         self.round
     }
 
-    /// The action's index in its round.
+    /// Returns the action's index in its round.
     pub fn index(&self) -> usize
         ensures { result ≡ self.now.index }
     {
@@ -128,21 +128,21 @@ impl Work {
         self.ty
     }
 
-    /// The first operand.
+    /// Returns the first operand.
     pub fn left(&self) -> &[u8]
         ensures { result.now ≡ self.now.left }
     {
         self.left.as_slice()
     }
 
-    /// The second operand.
+    /// Returns the second operand.
     pub fn right(&self) -> &[u8]
         ensures { result.now ≡ self.now.right }
     {
         self.right.as_slice()
     }
 
-    /// Makes a place for the result, which the work and the engine know. None where memory is refused.
+    /// Makes a cell for the result, which the work and the engine own. None if memory is refused.
     pub(crate) fn make_cell(&mut self, alloc: Global) -> Option<ResultCell>
         ensures same { self.new ≡ self.old }
         ensures cell { IfSome result (λ cell. cell ≡ result_of self.old) }
@@ -152,14 +152,15 @@ impl Work {
         Some(own)
     }
 
-    /// The owner of the place for the result, if there is one. The engine doesn't find the result there any more.
+    /// Takes the owner of the result's cell out, if there is one. The engine doesn't find a result
+    /// there after that.
     fn take_cell(&mut self) -> Option<ResultCell>
         ensures { self.new ≡ self.old }
     {
         self.cell.take()
     }
 
-    /// Puts the result where the engine finds it.
+    /// Puts the result into the cell.
     #[inline(always)]
     fn put(&self, bytes: &Bytes)
         requires { bytes.now ≡ result_of self.now }
@@ -169,7 +170,8 @@ impl Work {
         }
     }
 
-    /// Computes the combination. Only NoMemory is refused, and hands the work back; a few bytes take none.
+    /// Computes the combination. The only refusal is NoMemory, which hands the work back; up to
+    /// `FEW` bytes take no memory.
     #[inline(always)]
     pub fn run(self) -> Result<DoneWork, Refused<Work>>
         ensures made { IfOk result (λ done. done.piece ≡ self) }
@@ -187,8 +189,8 @@ impl Work {
         }
     }
 
-    /// Lets the combination go though no engine takes it back. It is for one whose engine is gone: in a live engine its request would run for
-    /// ever.
+    /// Drops the combination though no engine takes it back. It is for a combination whose engine
+    /// is gone, because in a live engine its request would run for ever.
     pub fn discard(self) {
         let Work {
             alloc: _,
@@ -204,7 +206,8 @@ impl Work {
         } = self;
     }
 
-    /// The result of another member that combines the same, or else one that others may share. Only NoMemory is refused.
+    /// Takes the result of another member that combines the same operands, else computes it for
+    /// others too. The only refusal is NoMemory.
     #[inline(always)]
     fn found_or_combined(&self) -> Result<Bytes, Refusal>
         ensures ok { IfOk result (λ bytes. bytes ≡ result_of self.now) }
@@ -223,14 +226,14 @@ impl Work {
 }
 
 impl DoneWork {
-    /// The work whose result it is.
+    /// Returns the work whose result it is.
     pub fn work(&self) -> &Work
         ensures { result.now ≡ self.now.piece }
     {
         &self.work
     }
 
-    /// The combination of the work's operands.
+    /// Returns the combination of the work's operands.
     pub fn result(&self) -> &[u8]
         ensures is { result.now ≡ self.now.bytes }
         ensures combined { self.now.bytes ≡ result_of self.now.piece }
@@ -238,7 +241,7 @@ impl DoneWork {
         self.result.as_slice()
     }
 
-    /// The result, while the operands go.
+    /// Returns the result and drops the operands.
     pub(crate) fn into_result(self) -> Bytes
         ensures is { result ≡ self.bytes }
         ensures combined { self.bytes ≡ result_of self.piece }
@@ -248,14 +251,14 @@ impl DoneWork {
         result
     }
 
-    /// The owner of the place for the result, if there is one.
+    /// Takes the owner of the result's cell out, if there is one.
     pub(crate) fn take_cell(&mut self) -> Option<ResultCell>
         ensures { self.new ≡ self.old }
     {
         self.work.take_cell()
     }
 
-    /// Lets the combination go though no engine takes its result, as `Work::discard`.
+    /// Drops the combination though no engine takes its result, as `Work::discard` does.
     pub fn discard(self) {
         let DoneWork { work, result: _ } = self;
         work.discard();

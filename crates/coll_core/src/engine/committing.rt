@@ -1,4 +1,4 @@
-//! Combinations that were handed out.
+//! Handed-out combinations: their results come back, or they are given back undone.
 
 ghost use Rattle.std.specs.Prelude.{◌≡◌, ◌↔◌, IfErr, IfOk, IfSome, IsTrue, OnErr, OnOk, is_ok, is_some};
 ghost use Rattle.coll_lists.specs.Layouts.{sequence};
@@ -18,13 +18,15 @@ use coll_bytes::Bytes;
 use coll_kinds::Refusal;
 
 impl Core {
-    /// Writes the result of a combination that was handed out, and its request goes on. What is written is the combination of the request's
-    /// own operands. Those of a long one aren't compared: the work and the core's record are the two owners of the place of its result.
+    /// Writes the result of a combination that was handed out, and lets its request go on. The
+    /// result is always the combination of the request's own operands. The operands of a long
+    /// combination aren't compared, because the work and the core's record are the two owners of
+    /// the cell of its result.
     ///
     /// # Errors
     ///
-    /// Stale, with nothing changed, unless the work is out: its request runs, and stands at that action with these
-    /// operands. The work is gone.
+    /// Stale, with nothing changed, unless the combination is out: the request runs, and its next
+    /// action is this combination with these operands. The work is dropped.
     pub fn commit(&mut self, done: DoneWork) -> Result<Stepped, Refusal>
         ensures out { IsOut self.old done.piece → IsTrue (is_ok result) }
         ensures own { IfOk result (CommitsOwn self.old self.new done.piece) }
@@ -45,7 +47,8 @@ impl Core {
         Ok(Stepped::by(advance(&mut self.arena, &self.matches, ticket)))
     }
 
-    /// The result of the combination at which a work's request stands, if it runs and the work is of it.
+    /// Returns the result of a request's next combination, if the request runs and `done` belongs
+    /// to it.
     fn result_by(&self, done: DoneWork) -> Option<Bytes>
         ensures own { IfSome result (HasOwnResult self.now done.piece) }
         ensures combined { done.bytes ≡ result_of done.piece }
@@ -63,7 +66,7 @@ impl Core {
         request.result_by(done)
     }
 
-    /// `commit` of a combination that was handed out by value.
+    /// `commit` for a combination that was handed out by value.
     ///
     /// # Errors
     ///
@@ -88,7 +91,7 @@ impl Core {
         Ok(Stepped::by(advance(&mut self.arena, &self.matches, ticket)))
     }
 
-    /// Takes back a combination that was handed out. Its request is the first that is ready.
+    /// Takes a handed-out combination back undone. Its request becomes the first ready one.
     ///
     /// # Errors
     ///
@@ -112,7 +115,7 @@ impl Core {
         Ok(())
     }
 
-    /// The work is out.
+    /// Tells whether this combination is handed out.
     fn is_short_out(&self, work: &ShortWork) -> bool
         ensures { IsTrue result ↔ IsOut self.now work.now }
     {
@@ -122,7 +125,7 @@ impl Core {
         self.arena.is_on(work.ticket(), ListName::Running) && request.stands_at_short(work)
     }
 
-    /// The work is out.
+    /// Tells whether this combination is handed out.
     fn is_out(&self, work: &Work) -> bool
         ensures { IsTrue result ↔ IsOut self.now work.now }
     {

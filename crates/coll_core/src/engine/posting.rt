@@ -33,7 +33,8 @@ use coll_match::Key;
 use coll_plans::Plan;
 use std::sync::Arc;
 
-/// The signature breaks no rule among this number of members. Among as many as the plan is for, it was tested when the plan was made.
+/// Checks the signature among `size` members. It was already checked for the plan's own number of
+/// members when the plan was made.
 fn check(plan: &Plan, size: u8) -> Result<(), Refusal>
     ensures { MatchOption (broken plan.now.sig size) (IsOk result) (λ cause. IsErrOf result (Refusal.BadSignature cause)) }
 {
@@ -44,7 +45,7 @@ fn check(plan: &Plan, size: u8) -> Result<(), Refusal>
     sig.check(size)
 }
 
-/// The signature breaks no rule among this number of members, and the plan is that mode's and that member's.
+/// Checks the signature among `size` members, and that the plan is for this mode and this member.
 fn fits(plan: &Plan, size: u8, member: u8, mode: Mode) -> Result<(), Refusal>
     ensures { result_err result ≡ first_of (plan_refusals (planned plan.now) size member mode) }
 {
@@ -62,7 +63,7 @@ fn fits(plan: &Plan, size: u8, member: u8, mode: Mode) -> Result<(), Refusal>
     Ok(())
 }
 
-/// The bytes that a plan's member gives.
+/// Returns the number of bytes that the plan's member gives.
 fn want(plan: &Plan) -> u32
     ensures { result ≡ given_len plan.now.sig plan.now.n plan.now.member }
 {
@@ -70,14 +71,14 @@ fn want(plan: &Plan) -> u32
     plan.sig().given_len(plan.n(), plan.member()) as u32
 }
 
-/// A plan's family serves its signature.
+/// States that a plan's family serves its signature. Does nothing at run time.
 fn is_planned(plan: &Plan)
     ensures { IsPlanned plan.now.sig plan.now.n (family plan.now.sig plan.now.n) }
 {
     let _schedule = plan.schedule();
 }
 
-/// Each byte is one.
+/// States that each byte is below 256. Does nothing at run time.
 fn are_bytes(bytes: &[u8])
     ensures { AreBytes bytes.now }
 {
@@ -89,8 +90,9 @@ impl Core {
     ///
     /// # Errors
     ///
-    /// In this order, with the offer handed back and nothing changed: BadComm; NotMember; BadSignature; Mismatch where
-    /// another member has another signature at the rank's next place; PlacesUsed; BadLength; Full; NoMemory.
+    /// In this order, with the offer handed back and nothing changed: BadComm; NotMember;
+    /// BadSignature; Mismatch if another member has another signature at the rank's next place;
+    /// PlacesUsed; BadLength; Full; NoMemory.
     pub fn post(&mut self, rank: u8, comm: u32, mut offer: Offer) -> Result<Ticket, Refused<Offer>>
         ensures setting { setting self.new ≡ setting self.old }
         ensures posted { IfOk result (λ ticket. StepsTo (setting self.old) (seen self.old) (post_of rank comm offer) (Ticketed ticket) (seen self.new)) }
@@ -106,7 +108,8 @@ impl Core {
         self.post_tested(rank, comm, offer, laid)
     }
 
-    /// `post` with the schedule's buffer made before: `laid` is `Offer::lay_in` of the offer.
+    /// `post` with a schedule's buffer that was made before: `laid` is `Offer::lay_in` of the
+    /// offer.
     ///
     /// # Errors
     ///
@@ -134,7 +137,7 @@ impl Core {
         self.post_tested(rank, comm, offer, laid)
     }
 
-    /// Posts what isn't refused, but for want of memory.
+    /// Carries out a post whose preconditions hold. The only refusal is NoMemory.
     fn post_tested(
         &mut self,
         rank: u8,
@@ -163,8 +166,9 @@ impl Core {
     ///
     /// # Errors
     ///
-    /// In this order, with the plan handed back and nothing changed: BadComm; NotMember; BadSignature; Mismatch where
-    /// another member has another signature at the rank's next place; PlacesUsed; Full; NoMemory.
+    /// In this order, with the plan handed back and nothing changed: BadComm; NotMember;
+    /// BadSignature; Mismatch if another member has another signature at the rank's next place;
+    /// PlacesUsed; Full; NoMemory.
     pub fn init(&mut self, rank: u8, comm: u32, plan: Plan) -> Result<Ticket, Refused<Plan>>
         ensures setting { setting self.new ≡ setting self.old }
         ensures made { IfOk result (λ ticket. MachineStep (setting self.old) (seen self.old) (init_of rank comm plan) (Ticketed ticket) (seen self.new)) }
@@ -183,7 +187,7 @@ impl Core {
         Ok(self.lay_down(rank, comm, plan, sig))
     }
 
-    /// A plan may enter the rank's posting list.
+    /// Checks whether a plan may enter the rank's posting list.
     fn may_enter(&self, rank: u8, comm: u32, plan: &Plan, mode: Mode) -> Result<(), Refusal>
         ensures { result_err result ≡ first_of (entry_refusals self.now.queues rank comm mode (planned plan.now)) }
     {
@@ -193,7 +197,7 @@ impl Core {
         Ok(())
     }
 
-    /// A post isn't refused, but for want of memory.
+    /// Checks every precondition of a post but memory.
     fn may_post(&self, rank: u8, comm: u32, offer: &Offer) -> Result<(), Refusal>
         ensures refused { result_err result ≡ refused_in self.now (post_of rank comm offer.now) }
         ensures short { OnOk result (length offer.now.bytes < 2 ^ 32) }
@@ -211,7 +215,7 @@ impl Core {
         Ok(())
     }
 
-    /// An initialisation isn't refused, but for want of memory.
+    /// Checks every precondition of an initialisation but memory.
     fn may_init(&self, rank: u8, comm: u32, plan: &Plan) -> Result<(), Refusal>
         ensures { result_err result ≡ refused_in self.now (init_of rank comm plan.now) }
     {
@@ -234,7 +238,7 @@ impl Core {
         self.queues.room(comm, rank)
     }
 
-    /// Makes room for what the members of a communicator give to a collective.
+    /// Makes room for what the members of a communicator give to one collective.
     #[inline(always)]
     pub(crate) fn make_instance(&mut self, key: Key, n: u8) -> Result<(), Refusal>
         requires { n ≡ size (setting self.old) key.comm }
@@ -247,8 +251,8 @@ impl Core {
         self.matches.room(key, n)
     }
 
-    /// Makes room for all that a post takes beside the schedule's buffer, and answers the signature for the posting list and
-    /// that buffer.
+    /// Makes room for everything that a post takes beside the schedule's buffer. Returns the
+    /// signature for the posting list, and the buffer.
     fn make_room(
         &mut self,
         rank: u8,
@@ -279,7 +283,8 @@ impl Core {
         Ok((sig, buffer))
     }
 
-    /// Makes room for all that an initialisation takes, and answers the signature for the posting list.
+    /// Makes room for everything that an initialisation takes. Returns the signature for the
+    /// posting list.
     fn make_idle_room(
         &mut self,
         rank: u8,
@@ -297,7 +302,7 @@ impl Core {
         plan.shared_sig()
     }
 
-    /// Enters a post for which room was made.
+    /// Enters a post whose room was made. Can't be refused.
     fn enter(
         &mut self,
         rank: u8,
@@ -347,7 +352,7 @@ impl Core {
         }
     }
 
-    /// Enters an initialisation for whose signature room was made.
+    /// Enters an initialisation whose room was made. Can't be refused.
     fn lay_down(&mut self, rank: u8, comm: u32, plan: Plan, sig: Arc<Signature>) -> Ticket
         requires accepted { refused_in self.old (init_of rank comm plan) ≡ None }
         requires room { HasRoom self.old.queues comm rank }

@@ -29,12 +29,14 @@ use coll_match::Matches;
 use std::alloc::Global;
 
 impl Core {
-    /// Completes a request that is Done, as `MPI_Test` and `MPI_Wait` do: a once request is gone, a persistent one Idle
-    /// (MPI 4.1, 3.7.3). None where it isn't Done, and nothing changes. It takes no memory.
+    /// Completes a Done request, as `MPI_Test` and `MPI_Wait` do: a once request goes, a persistent
+    /// one becomes Idle (MPI 4.1, 3.7.3). Returns None, and changes nothing, if the request isn't
+    /// Done. Takes no memory.
     ///
     /// # Errors
     ///
-    /// Stale where the ticket names no live request, then NotYours where it is another rank's; nothing changes.
+    /// Stale if the ticket names no live request, then NotYours if it names another rank's; nothing
+    /// changes.
     pub fn retire(&mut self, rank: u8, ticket: Ticket) -> Result<Option<Outcome>, Refusal>
         ensures refused { result_err result ≡ refusal (setting self.old) (seen self.old).state (Retire rank ticket) }
         ensures err { OnErr result (self.new ≡ self.old) }
@@ -52,7 +54,8 @@ impl Core {
         }
     }
 
-    /// As `retire`; also returns a second owner of the outcome's bytes, for a trace, so that nothing is copied.
+    /// `retire` that also returns a second owner of the outcome's bytes. So a trace keeps the
+    /// outcome without a copy.
     ///
     /// # Errors
     ///
@@ -82,7 +85,7 @@ impl Core {
         }
     }
 
-    /// `retire` that answers room for a copy of the outcome.
+    /// `retire` that also returns memory for a copy of the outcome.
     #[inline(always)]
     fn complete(&mut self, rank: u8, ticket: Ticket) -> Result<Option<(Outcome, Vec<u8>)>, Refusal>
         ensures refused { result_err result ≡ refusal (setting self.old) (seen self.old).state (Retire rank ticket) }
@@ -118,7 +121,8 @@ impl Core {
     }
 }
 
-/// The value of a bcast that is Done: a further owner of what its root gave. None where that doesn't count its owners, and for other kinds.
+/// Returns the value of a Done bcast: a further owner of its root's contribution. None for other
+/// kinds, and if the contribution doesn't count its owners.
 fn root_row(matches: &Matches, request: &Request) -> Option<Bytes>
     ensures kind { IfSome result (λ bytes. request.now.plan.sig.kind ≡ Kind.Bcast) }
     ensures given { IfSome result (λ bytes. given matches.now (key (shown request.now)) request.now.plan.sig.root ≡ Some bytes) }
@@ -130,8 +134,8 @@ fn root_row(matches: &Matches, request: &Request) -> Option<Bytes>
     matches.share_given(request.key(), request.hint, sig.root)
 }
 
-/// Takes the outcome of a request with room for a copy of it, of which another owner may be known. The request goes, or is Idle then, by its
-/// mode.
+/// Takes the outcome of a request, with memory for a copy of it. `known` is another owner of the
+/// same bytes, if there is one. A once request goes, a persistent one becomes Idle.
 fn give_up(
     arena: &mut Arena<Request>,
     alloc: Global,
@@ -155,7 +159,7 @@ fn give_up(
     }
 }
 
-/// The outcome of a once request, which goes.
+/// Takes the outcome of a once request, which goes.
 fn end(
     arena: &mut Arena<Request>,
     alloc: Global,
@@ -176,7 +180,7 @@ fn end(
     }
 }
 
-/// The outcome of a persistent request, which is Idle then.
+/// Takes the outcome of a persistent request, which becomes Idle.
 fn rest(
     arena: &mut Arena<Request>,
     alloc: Global,

@@ -1,4 +1,4 @@
-//! Starts of persistent requests, and their end.
+//! Starts and frees of persistent requests.
 
 ghost use Rattle.std.specs.Prelude.{◌≡◌, ◌<◌, ◌^◌, suc, true, is_some, length, IfErr, IfOk, IfSome, OnOk, OnErr};
 ghost use Rattle.std.specs.Result.{result_err};
@@ -32,8 +32,8 @@ impl Core {
     ///
     /// # Errors
     ///
-    /// In this order, with the bytes handed back and nothing changed: Stale; NotYours; NotPersistent; Active; BadLength;
-    /// StartsUsed; NoMemory.
+    /// In this order, with the bytes handed back and nothing changed: Stale; NotYours;
+    /// NotPersistent; Active; BadLength; StartsUsed; NoMemory.
     pub fn start(
         &mut self,
         rank: u8,
@@ -61,8 +61,8 @@ impl Core {
         Ok(())
     }
 
-    /// Gives up a persistent request that isn't active (`MPI_Request_free`; MPI 4.1, 3.7.3). Its place in the posting
-    /// list stays taken.
+    /// Frees a persistent request that isn't active (`MPI_Request_free`; MPI 4.1, 3.7.3). Its place
+    /// in the posting list stays taken.
     ///
     /// # Errors
     ///
@@ -82,7 +82,7 @@ impl Core {
         Ok(())
     }
 
-    /// The ticket names a persistent request of the rank that isn't active.
+    /// Checks that the ticket names an inactive persistent request of the rank.
     fn may_free(&self, rank: u8, ticket: Ticket) -> Result<(), Refusal>
         ensures refused { result_err result ≡ refusal (setting self.now) (seen self.now).state (Free rank ticket) }
         ensures named { OnOk result (names self.now.arena ticket ≡ true) }
@@ -97,7 +97,7 @@ impl Core {
         Ok(())
     }
 
-    /// A start isn't refused, but for want of memory.
+    /// Checks every precondition of a start but memory.
     fn may_start(&self, rank: u8, ticket: Ticket, bytes: &[u8]) -> Result<(), Refusal>
         ensures refused { result_err result ≡ refusal (setting self.now) (seen self.now).state (Start rank ticket bytes.now) }
         ensures named { OnOk result (names self.now.arena ticket ≡ true) }
@@ -126,7 +126,8 @@ impl Core {
         Ok(())
     }
 
-    /// Makes room for all that a start takes, and the schedule's buffer with the contribution laid in.
+    /// Makes room for everything that a start takes, and the schedule's buffer with the
+    /// contribution.
     fn make_start_room(
         &mut self,
         ticket: Ticket,
@@ -156,7 +157,7 @@ impl Core {
     }
 }
 
-/// Starts a request for which room was made.
+/// Starts a request whose room was made. Can't be refused.
 fn begin(
     arena: &mut Arena<Request>,
     matches: &mut Matches,

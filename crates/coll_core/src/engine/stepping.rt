@@ -1,4 +1,4 @@
-//! Steps.
+//! Progress: one action of one request at a time.
 
 ghost use Rattle.std.specs.Prelude.{◌≡◌, ◌<◌, ◌≤◌, ◌+◌, ◌↔◌, [], ℕ, true, IfOk, IfSome, IsOkUnless, IsTrue, None, Ok, OnErr, OnOk, Some, is_some};
 ghost use Rattle.coll_lists.specs.Layouts.{sequence};
@@ -31,8 +31,9 @@ use coll_match::Matches;
 use coll_sched::{Action, Region};
 
 impl Core {
-    /// Carries out the next action of the first ready request, or hands it out where it is a combination. A request that
-    /// can go on after its action stays the first. It touches a bounded number of requests, and copies bytes at most once.
+    /// Carries out the next action of the first ready request, or hands that action out if it is a
+    /// combination. A request that can go on after its action stays the first. A step touches a
+    /// bounded number of requests and copies bytes at most once.
     ///
     /// # Errors
     ///
@@ -53,7 +54,7 @@ impl Core {
         }
     }
 
-    /// `step` that hands nothing out: it answers Quiet where nothing can be done without a combination.
+    /// `step` that hands nothing out. Returns Quiet if nothing can be done without a combination.
     ///
     /// # Errors
     ///
@@ -74,8 +75,8 @@ impl Core {
         }
     }
 
-    /// Hands out by value the combination that `step` would hand out, where its operands have up to eight bytes; else nothing changes. It
-    /// takes no memory.
+    /// Hands the combination that `step` would hand out out by value, if its operands have up to
+    /// eight bytes; else changes nothing. Takes no memory.
     pub fn hand_out_short(&mut self) -> Option<ShortWork>
         ensures short { IsTrue (is_some result) ↔ CombinesShort self.old }
         ensures out { IfSome result (HandsOut self.old self.new) }
@@ -91,7 +92,8 @@ impl Core {
         Some(self.hand_out_value(ticket, action))
     }
 
-    /// Steps until no request is ready, and computes combinations itself. Returns the number of actions.
+    /// Steps until no request is ready, and computes the combinations itself. Returns the number of
+    /// actions.
     ///
     /// # Errors
     ///
@@ -116,7 +118,7 @@ impl Core {
         Ok(steps)
     }
 
-    /// The next action of a ready request.
+    /// Returns the next action of a ready request.
     fn next_of(&self, ticket: Ticket) -> Action
         requires { IsFirst self.now.arena (number_of Ready) ticket }
         ensures { IsActing self.now ticket result }
@@ -130,7 +132,8 @@ impl Core {
         }
     }
 
-    /// Carries out an action, which is the next one of a ready request. Returns whether that request is Done.
+    /// Carries out the next action of a ready request. Returns whether the request is Done after
+    /// it.
     #[inline(always)]
     fn act(&mut self, ticket: Ticket, action: Action) -> Result<bool, Refusal>
         requires { IsActing self.old ticket action }
@@ -146,7 +149,7 @@ impl Core {
         }
     }
 
-    /// Sends a message. A receiver that waits for it comes to the back of Ready.
+    /// Sends a message. A receiver that waits for it goes to the back of the list Ready.
     fn send(&mut self, ticket: Ticket, to: u8, from: Region) -> Result<bool, Refusal>
         requires { IsActing self.old ticket (Action.Send to from) }
         ensures acts { IfOk result (Acts self.old self.new) }
@@ -175,7 +178,7 @@ impl Core {
         Ok(advance(&mut self.arena, &self.matches, ticket))
     }
 
-    /// Takes a message that is there.
+    /// Receives a message that is there.
     fn receive(&mut self, ticket: Ticket, of: u8, into: Region) -> bool
         requires { IsActing self.old ticket (Action.Recv of into) }
         ensures { Acts self.old self.new result }
@@ -193,7 +196,7 @@ impl Core {
         advance(&mut self.arena, &self.matches, ticket)
     }
 
-    /// Copies or combines within the buffer.
+    /// Carries out a Copy or a Combine within the buffer.
     fn compute(&mut self, ticket: Ticket, action: Action) -> Result<bool, Refusal>
         requires acting { IsActing self.old ticket action }
         requires local { IsLocal action }
@@ -247,7 +250,7 @@ impl Core {
     }
 }
 
-/// Whether it is a combination of operands of up to eight bytes.
+/// Tells whether an action combines operands of up to eight bytes.
 fn is_short(action: Action) -> bool
     ensures { IsTrue result ↔ IsShort action }
 {
@@ -257,7 +260,8 @@ fn is_short(action: Action) -> bool
     }
 }
 
-/// Moves a request past its next action, to the list where it then belongs. Returns whether it is Done.
+/// Moves a request past its next action, and to the list that fits it then. Returns whether it is
+/// Done.
 #[inline(always)]
 pub(super) fn advance(arena: &mut Arena<Request>, matches: &Matches, ticket: Ticket) -> bool
     requires { CanAdvance arena.old ticket }
@@ -273,8 +277,8 @@ pub(super) fn advance(arena: &mut Arena<Request>, matches: &Matches, ticket: Tic
     is_end(list)
 }
 
-/// Takes a request to the back of a list, unless it is on that list: one that is the first of Ready, and can go on, stays
-/// the first.
+/// Moves a request to the back of a list, unless it is on that list already. So the first ready
+/// request stays the first while it can go on.
 #[inline(always)]
 fn place(arena: &mut Arena<Request>, ticket: Ticket, list: ListName)
     requires live { names arena.old ticket ≡ true }
@@ -293,14 +297,15 @@ fn place(arena: &mut Arena<Request>, ticket: Ticket, list: ListName)
     };
 }
 
-/// Whether requests on that list are Done.
+/// Tells whether the requests on a list are Done.
 fn is_end(list: ListName) -> bool
     ensures { result ≡ is_end list }
 {
     matches!(list, ListName::Done(_))
 }
 
-/// Makes the receiver's request ready if it waits for a message that is there. `seat` is the slot of that request.
+/// Makes the receiver's request ready, if it waits for a message that is there. `seat` is that
+/// request's slot.
 fn deliver(arena: &mut Arena<Request>, matches: &Matches, sent: Sent, seat: Option<u32>)
     requires lists { HaveLists arena.old }
     requires sent { IsSent matches.now sent }
@@ -319,7 +324,8 @@ fn deliver(arena: &mut Arena<Request>, matches: &Matches, sent: Sent, seat: Opti
     };
 }
 
-/// The receiver's request, where it waits for a message that is there: mostly for the one that was just sent.
+/// Returns the receiver's request, if it waits for a message that is there. Mostly that is the
+/// message just sent.
 fn receiver(
     arena: &Arena<Request>,
     matches: &Matches,
