@@ -29,7 +29,7 @@ pub enum CheckForm {
 /// The exit status of a text with a fault.
 pub(crate) const FAULTY: u8 = 2;
 
-/// Reads the text that has this name, and writes its faults; or, if it has none, whether its runs stall. Lines for a reader go
+/// Reads the text that has this name, and writes its faults; or, if it has none, whether its runs deadlock. Lines for a reader go
 /// to `errors`, and JSON to `output`. Returns the exit status. If it returns a fault, nothing was written, except at a write
 /// fault.
 ///

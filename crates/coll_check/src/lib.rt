@@ -1,4 +1,4 @@
-//! Checks a job text: reports its faults to a reader, as lines or as JSON, or, if it has none, whether its runs stall.
+//! Checks a job text: reports its faults to a reader, as lines or as JSON, or, if it has none, whether its runs deadlock.
 //!
 //! | Module | Has |
 //! |---|---|

@@ -80,12 +80,13 @@ impl Requests for Core {
     ghost did_runs = { λ s t a b es h. h.1 };
 }
 
-/// Completes a request if it is Done (`MPI_Test`; MPI 4.1, 3.7.3). A once request that is completed is null then. At a
-/// null or Idle request the flag is true, and there is no outcome. It takes no memory.
+/// Completes a request if it is Done (`MPI_Test`; MPI 4.1, 3.7.3). A completed once request becomes
+/// null. For a null or Idle request the flag is true, and there is no outcome. Takes no memory.
 ///
 /// # Errors
 ///
-/// Stale where the ticket names no live request, then NotYours where it is another rank's; nothing changes.
+/// Stale if the ticket names no live request, then NotYours if it names another rank's; nothing
+/// changes.
 pub fn test(core: &mut Core, rank: u8, request: &mut Request) -> Result<Tested, Refusal>
     ensures refused { result_err result ≡ refusal_at (setting core.old) (seen core.old).state rank request.old }
     ensures err { OnErr result ((core.new ≡ core.old) × (request.new ≡ request.old)) }
@@ -99,13 +100,13 @@ pub fn test(core: &mut Core, rank: u8, request: &mut Request) -> Result<Tested, 
     test_on(core, &mut (), rank, request)
 }
 
-/// Completes the lowest request of a list that is Done (`MPI_Testany`; MPI 4.1, 3.7.5): a once request is null in the
-/// list then. Null and Idle requests are inactive. It takes no memory.
+/// Completes the lowest Done request of a list (`MPI_Testany`; MPI 4.1, 3.7.5). A completed once
+/// request becomes null in the list. Null and Idle requests are inactive. Takes no memory.
 ///
 /// # Errors
 ///
-/// Stale where a ticket names no live request, NotYours where it names another rank's: that of the first such request.
-/// Nothing changes.
+/// Those of the first request that has one, with nothing changed: Stale if a ticket names no live
+/// request, NotYours if it names another rank's.
 pub fn test_any(core: &mut Core, rank: u8, requests: &mut [Request]) -> Result<Any, Refusal>
     ensures refused { result_err result ≡ list_refusal (setting core.old) (seen core.old).state rank requests.old }
     ensures err { OnErr result ((core.new ≡ core.old) × (requests.new ≡ requests.old)) }
@@ -176,12 +177,13 @@ pub fn test_some(
     test_some_on(core, &mut (), rank, requests, out)
 }
 
-/// Gives up a persistent request that isn't active, and leaves null (`MPI_Request_free`; MPI 4.1, 3.7.3). It takes no
-/// memory.
+/// Frees an inactive persistent request, and leaves null (`MPI_Request_free`; MPI 4.1, 3.7.3).
+/// Takes no memory.
 ///
 /// # Errors
 ///
-/// In this order, with nothing changed: Stale, also where the request is null; NotYours; NotPersistent; Active.
+/// In this order, with nothing changed: Stale, also if the request is null; NotYours;
+/// NotPersistent; Active.
 pub fn request_free(core: &mut Core, rank: u8, request: &mut Request) -> Result<(), Refusal>
     ensures refused { result_err result ≡ free_refusal (setting core.old) (seen core.old).state rank request.old }
     ensures err { OnErr result ((core.new ≡ core.old) × (request.new ≡ request.old)) }
@@ -192,12 +194,13 @@ pub fn request_free(core: &mut Core, rank: u8, request: &mut Request) -> Result<
     request_free_on(core, &mut (), rank, request)
 }
 
-/// Starts the requests of a list in rising position, each with the contribution at its position (`MPI_Startall`; MPI 4.1, 3.9).
+/// Starts the requests of a list in rising position, each with the contribution at its position
+/// (`MPI_Startall`; MPI 4.1, 3.9).
 ///
 /// # Errors
 ///
-/// At the first position whose start is refused, with that refusal as `start` answers it, at a null request Stale. The
-/// requests before it stay started, and what wasn't used comes back.
+/// The first refusal, as `start` returns it, with its position; a null request is Stale. The
+/// requests before it stay started, and unused contributions come back.
 pub fn start_all(
     core: &mut Core,
     rank: u8,

@@ -18,7 +18,8 @@ fn stands_in(ticket: Ticket, requests: &[Request]) -> bool
     false
 }
 
-/// Whether no ticket stands at two positions of a list, as the tests of lists ask. It takes time for each two positions.
+/// Tells whether no ticket stands at two positions of a list, which is a precondition of tests of
+/// lists. Quadratic in the list.
 pub fn are_distinct(requests: &[Request]) -> bool
     ensures { IsTrue result ↔ AreDistinct requests.now }
 {

@@ -1,8 +1,8 @@
 use coll_core::{About, Contribution, Outcome, Phase};
 use coll_kinds::{Refusal, Refused, Ticket};
 
-/// An engine whose requests are tested, completed, started and freed: a core, or a core that keeps more beside it. The calls over it
-/// are written once, for any such engine.
+/// An engine whose requests are tested, completed, started and freed: a core, or a core that keeps
+/// more beside it. The calls over it are written once, for every such engine.
 pub trait Requests {
     ghost use Rattle.std.specs.Prelude.{◌≡◌, List, [], ◌++◌, IfErr, IfOk, IfSome, IsNone, OnErr, OnOk, Some};
     ghost use Rattle.std.specs.Result.{result_err};

@@ -37,11 +37,12 @@ fn phase<C: Requests>(core: &C, rank: u8, request: &Request) -> Result<Option<Ph
 }
 
 impl Survey {
-    /// Looks at each request in rising position.
+    /// Checks each request in rising position.
     ///
     /// # Errors
     ///
-    /// Stale where a ticket names no live request, NotYours where it names another rank's: that of the first such one.
+    /// Those of the first request that has one: Stale if a ticket names no live request, NotYours
+    /// if it names another rank's.
     pub fn of<C: Requests>(core: &C, rank: u8, requests: &[Request]) -> Result<Survey, Refusal>
         ensures refused { result_err result ≡ list_refusal (C.setting core.now) (C.machine core.now).state rank requests.now }
         ensures done { IfOk result (λ survey. survey.done ≡ position (is_done (C.machine core.now)) requests.now) }

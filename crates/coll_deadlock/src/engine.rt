@@ -1,5 +1,5 @@
-//! What holds of the engine's core, and of jobs whose ranks carry their lines out on it. A call does nothing; its contract is
-//! the law.
+//! Theorems about the engine's core, and about jobs whose ranks carry their lines out on it. A call
+//! does nothing at run time; its contract is the theorem.
 
 ghost use Rattle.coll_core.specs.Cores.{seen, setting};
 ghost use Rattle.coll_deadlock.specs.CoreCalls.{CallsCarryOut};
@@ -11,13 +11,14 @@ use coll_core::Core;
 use coll_core::laws::{between_calls, done_once_heard, lock_is_free};
 use coll_verdict::laws::lone_barrier_never_stalls_by;
 
-/// What an engine may be opened with are groups: of at most 64 members, and no rank twice.
+/// An engine is opened only with groups: at most 64 members, and no rank twice.
 pub fn configs_are_groups()
     ensures { ConfigsAreGroups }
 {}
 
-/// Where no request is ready and no combination is handed out, each request is Done to whose start all have given on whom its value
-/// rests, and all from whom its member hears by the end of its schedule.
+/// In a quiet core (no request ready, no combination handed out) each request is Done to whose
+/// start all members have given on whom its value rests, and all whom its member hears by the end
+/// of its schedule.
 pub fn quiet_is_settled(core: &Core)
     ensures { QuietIsSettled core.now }
 {
@@ -34,98 +35,102 @@ pub fn none_is_early(core: &Core)
     done_once_heard(core);
 }
 
-/// So a Finish that a call of the core makes is a step of a library whose requests wait for those from whom their members hear.
+/// So a Finish by a call of the core is a step of a library whose requests wait for the members
+/// that their own members hear.
 pub fn finish_is_step()
     ensures { FinishIsStep }
 {}
 
-/// A run of a job begins where the engine was just opened;
+/// A run of a job begins where the engine was just opened.
 pub fn begins_where_opened()
     ensures { BeginsWhereOpened }
 {}
 
-/// a call that carries a rank's next line out goes on with it, whether a request becomes Done after that or not;
+/// A call that carries a rank's next line out continues the run, whether or not a request becomes
+/// Done after it.
 pub fn goes_on_by_calls(core: &Core)
     ensures { GoesOnByCalls core.now }
 {
     none_is_early(core);
 }
 
-/// in particular each call that is accepted, by what its contract says;
+/// Each accepted call carries its line out, by what its contract says.
 pub fn calls_carry_out(core: &Core)
     ensures { CallsCarryOut core.now }
 {
     goes_on_by_calls(core);
 }
 
-/// and so do a step of the core,
+/// A step of the core continues the run.
 pub fn goes_on_by_step(core: &Core)
     ensures { GoesOnByStep core.now }
 {
     none_is_early(core);
 }
 
-/// a combination that is committed,
+/// A committed combination continues the run.
 pub fn goes_on_by_commit(core: &Core)
     ensures { GoesOnByCommit core.now }
 {
     none_is_early(core);
 }
 
-/// as many steps as `settle` makes,
+/// The steps that `settle` makes continue the run.
 pub fn goes_on_by_steps(core: &Core)
     ensures { GoesOnBySteps core.now }
 {
     none_is_early(core);
 }
 
-/// and what changes nothing that callers see, as a refused call.
+/// What changes nothing that callers see, as a refused call, continues the run.
 pub fn goes_on_where_nothing_changes(core: &Core)
     ensures { GoesOnWhereNothingChanges core.now }
 {
     none_is_early(core);
 }
 
-/// Where no request is ready and no combination is handed out, and each rank is at its end or waits, the run stalls, unless all are at
-/// their ends.
+/// If the core is quiet, and each rank is at its end or waits, the run is deadlocked, or all ranks
+/// are at their ends.
 pub fn quiet_stalls(core: &Core)
     ensures { QuietStalls core.now }
 {
     quiet_is_settled(core);
 }
 
-/// So of a job of which it is known that by this engine's schedules no run stalls, all ranks are at their ends there;
+/// If by this engine's schedules no run of the job deadlocks, all ranks are at their ends then.
 pub fn never_here_ends(core: &Core)
     ensures { NeverHereEnds core.now }
 {
     quiet_is_settled(core);
 }
 
-/// and one of which it is known that by this engine's schedules every run stalls isn't brought to its end.
+/// If by this engine's schedules every run of the job deadlocks, the job isn't brought to its end.
 pub fn always_here_never_ends(core: &Core)
     ensures { AlwaysHereNeverEnds core.now }
 {
     let _core = core;
 }
 
-/// That whatever has heard is Done isn't true of each machine: not of two ranks' barrier that both have posted and neither has Done;
+/// `quiet_is_settled` isn't true of every machine: not of two ranks' barrier that both have posted
+/// and that isn't Done.
 pub fn both_are_unsettled()
     ensures { BothAreUnsettled }
 {}
 
-/// nor is it that nothing is Done early, of a barrier that is Done and that one of two has posted.
+/// `none_is_early` isn't true of every machine: not of a barrier that is Done and that one of two
+/// ranks has posted.
 pub fn one_is_early()
     ensures { OneIsEarly }
 {}
 
-/// Where something can still go on a rank may wait though no run of its job stalls.
+/// While something can still go on, a rank may wait though no run of its job deadlocks.
 pub fn waits_unsettled()
     ensures { WaitsUnsettled }
 {
     lone_barrier_never_stalls_by();
 }
 
-/// By the schedules a member waits for others too than those on whom its value rests.
+/// By the schedules a member waits for more members than those on whom its value rests.
 pub fn hears_more()
     ensures { HearsMore }
 {}

@@ -16,12 +16,12 @@
 //! | `Runs` | a run of a job that an engine shows |
 //! | `CoreCalls` | what each call of the core is in it, by its contract's clauses |
 //! | `CoreLaws` | what calls and steps are in it, and where it stalls |
-//! | `CoreRows` | worked rows, of which the definitions are false |
+//! | `CoreRows` | test vectors, of which the definitions are false |
 //! | `Lines` | ports in the lines of a job |
 //! | `WaitCalls` | the calls by which ranks wait |
 //! | `Locks` | what lies under the lock, from one call to the next |
 //! | `PortLaws` | what a stalled engine shows |
-//! | `PortRows` | worked rows |
+//! | `PortRows` | test vectors |
 #![tactic(auto)]
 
 pub mod engine;

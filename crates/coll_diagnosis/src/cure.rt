@@ -1,4 +1,4 @@
-//! The cure of a text that stalls: a line that is moved.
+//! The cure of a text that deadlocks: a line that is moved.
 
 ghost use Rattle.std.specs.Prelude.{◌<◌, IfOk, IfSome, IsTrue};
 ghost use Rattle.coll_diagnosis.specs.Cures.{IsCured, IsTried};
@@ -24,7 +24,7 @@ pub struct Move {
 /// The most texts that are tried.
 const TRIES: u32 = 64;
 
-/// Moves a wait of the circle after a later line of its rank, such that the text never stalls, if one of the first moves that
+/// Moves a wait of the cycle after a later line of its rank, such that the text never deadlocks, if one of the first moves that
 /// are tried is such. Each try reads and judges the moved text.
 pub(crate) fn cure(
     alloc: Global,
@@ -79,7 +79,7 @@ fn cure_of(
     Ok(None)
 }
 
-/// Whether the text with that line moved has no fault and never stalls, with any library.
+/// Whether the text with that line moved has no fault and never deadlocks, with any library.
 fn is_cure(alloc: Global, text: &[u8], tried: Move) -> Result<bool, Refusal>
     requires { tried.line < tried.behind }
     ensures { IfOk result (λ is_cure. IsTrue is_cure → IsTried text.now tried) }
@@ -88,7 +88,7 @@ fn is_cure(alloc: Global, text: &[u8], tried: Move) -> Result<bool, Refusal>
     never_stalls(alloc, &cured)
 }
 
-/// Whether the text has no fault and never stalls, with any library.
+/// Whether the text has no fault and never deadlocks, with any library.
 fn never_stalls(alloc: Global, text: &[u8]) -> Result<bool, Refusal>
     ensures { IfOk result (λ never. IsTrue never → IsCured text.now) }
 {

@@ -9,7 +9,7 @@ use crate::stuck::Stuck;
 use coll_snippet::Source;
 use std::alloc::{AllocError, Global};
 
-/// A graph with an arrow from each rank of a shortest circle to each rank of the circle that it lacks; if the whole is wanted,
+/// A graph with an arrow from each rank of a shortest cycle to each rank of the cycle that it lacks; if the whole is wanted,
 /// the arrows of all ranks that wait. An arrow is dashed if the outcome doesn't need what the lacking member gives.
 pub(crate) fn dot_form(
     alloc: Global,
@@ -29,7 +29,7 @@ pub(crate) fn dot_form(
     Ok(out)
 }
 
-/// The ranks that may be drawn: all if the whole is wanted, else those of the shortest circle.
+/// The ranks that may be drawn: all if the whole is wanted, else those of the shortest cycle.
 fn drawn(shown: &ShownStall, is_whole: bool) -> Members {
     if is_whole {
         Members::ALL

@@ -21,9 +21,9 @@ use std::io::{Read, Write};
 #[derive(Clone, Copy, Debug, PartialEq, Eq)]
 pub struct ExplainOptions {
     pub form: Form,
-    /// Whether a stall with another library counts.
+    /// Whether a deadlock with another library counts.
     pub is_strict: bool,
-    /// Whether lines and a graph show every rank that waits in full, in place of a shortest circle alone.
+    /// Whether lines and a graph show every rank that waits in full, in place of a shortest cycle alone.
     pub is_whole: bool,
     /// Whether lines for a reader have colours.
     pub is_colored: bool,

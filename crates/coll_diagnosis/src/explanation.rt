@@ -14,17 +14,17 @@ use coll_kinds::Refusal;
 use coll_script::Script;
 use std::alloc::Global;
 
-/// Whether the runs of a text stall, and which rank then waits for which.
+/// Whether the runs of a text deadlock, and which rank then waits for which.
 #[derive(Debug, Drop)]
 pub struct Explanation {
     pub verdict: Verdict,
-    /// Where the ranks stand, if some course of theirs stalls.
+    /// Where the ranks stand, if some course of theirs deadlocks.
     pub shown: Option<ShownStall>,
-    /// A move that makes a text which stalls in every run of this engine one that never stalls.
+    /// A move that makes a text which deadlocks in every run of this engine one that never deadlocks.
     pub cure: Option<Move>,
 }
 
-/// A stall that some course of the ranks reaches.
+/// A deadlock that some course of the ranks reaches.
 #[derive(Debug, Drop)]
 pub struct ShownStall {
     /// For whom completions wait in that course.
@@ -47,7 +47,7 @@ impl Explanation {
     ///
     /// # Errors
     ///
-    /// `NoMemory`; `Torn` if a stall that it found isn't true of the script, which doesn't happen.
+    /// `NoMemory`; `Torn` if a deadlock that it found isn't true of the script, which doesn't happen.
     pub fn of(alloc: Global, text: &[u8], script: &Script) -> Result<Explanation, Refusal>
         // What is shown is true of the commands of the text.
         ensures shown { IfOk result (λ e. IfSome e.shown (IsShown script.now)) }
@@ -55,7 +55,7 @@ impl Explanation {
         ensures means { IfOk result (λ e. Means e.verdict script.now) }
         ensures never { IfOk result (λ e. e.verdict ≡ Never → e.shown ≡ None) }
         ensures standing { IfOk result (λ e. is_always_here e.verdict ≡ true → IsSome e.shown) }
-        // A cure was tried: no run of the text with that line moved stalls.
+        // A cure was tried: no run of the text with that line moved deadlocks.
         ensures cure { IfOk result (λ e. IfSome e.cure (IsTried text.now)) }
         ensures uncured { IfOk result (λ e. is_always_here e.verdict ≡ false → e.cure ≡ None) }
     {
@@ -91,7 +91,7 @@ fn stall_here(alloc: Global, script: &Script, job: &Job) -> Result<ShownStall, R
     }
 }
 
-/// A stall by this engine's schedules, if a course comes to one.
+/// A deadlock by this engine's schedules, if a course comes to one.
 fn stall_by_schedules(
     alloc: Global,
     script: &Script,
@@ -103,8 +103,8 @@ fn stall_by_schedules(
     stall_among(alloc, script, job, Reading::Heard(&tables))
 }
 
-/// A stall with that reading: of the course that helps the ranks most, and so of every run; else of one of the two courses that
-/// a run may take. Refuses [`Refusal::Torn`] if the stall isn't true of the script, which doesn't happen.
+/// A deadlock with that reading: of the course that helps the ranks most, and so of every run; else of one of the two courses that
+/// a run may take. Refuses [`Refusal::Torn`] if the deadlock isn't true of the script, which doesn't happen.
 fn stall_among(
     alloc: Global,
     script: &Script,

@@ -1,4 +1,4 @@
-//! Why a job text stalls: which rank waits in which line for which, in every run, in those of this engine alone, or perhaps.
+//! Why a job text deadlocks: which rank waits in which line for which, in every run, in those of this engine alone, or perhaps.
 //!
 //! A job is gone through without an engine. Each rank goes on while it can, until none can. This is done for several readings
 //! of which members a completion waits for, and of what a call completes if that depends on time. The readings in which all
@@ -12,12 +12,12 @@
 //! | `hearing`, `engine_tables` | from which members the schedule of each member hears; the same of all collectives of a job |
 //! | `step`, `section`, `place`, `job` | `Job`, the commands and requests of the ranks of a script |
 //! | `course` | `Course`, how far the ranks come |
-//! | `verdict` | `Verdict`, whether runs stall, and its exit status |
+//! | `verdict` | `Verdict`, whether runs deadlock, and its exit status |
 //! | `circle`, `standstill` | `Standstill`, which rank waits for which if no rank can go on |
 //! | `stuck`, `pending`, `lack` | `Stuck`, a rank that waits; `Pending`, a request that it waits for; `Lack`, a member that the request lacks |
 //! | `facts` | what of a script a standstill is compared with |
 //! | `ring` | the fewest ranks that wait for one another |
-//! | `cure` | `Move`, a line that is moved so that the text never stalls |
+//! | `cure` | `Move`, a line that is moved so that the text never deadlocks |
 //! | `cured_text` | a text with one line moved |
 //! | `explanation` | `Explanation`, all of this of one text |
 //! | `text_form` | an explanation as lines for a reader |

@@ -6,7 +6,7 @@ use crate::stuck::Stuck;
 use coll_kinds::MAX_RANKS;
 use std::alloc::{AllocError, Global};
 
-/// The ranks of a shortest circle: each waits for the next one, and the last for the first. If there are several, the one with
+/// The ranks of a shortest cycle: each waits for the next one, and the last for the first. If there are several, the one with
 /// the lowest rank; empty if no rank waits for itself by way of others.
 pub(crate) fn shortest_ring(alloc: Global, stuck: &[Stuck]) -> Result<Vec<u8>, AllocError> {
     let awaited = awaited(alloc, stuck)?;

@@ -12,7 +12,7 @@ pub struct Standstill {
     pub stuck: Vec<Stuck>,
     /// Those among them that wait for themselves by way of others.
     pub circle: Vec<u8>,
-    /// The others among them, which wait for those of the circle.
+    /// The others among them, which wait for those of the cycle.
     pub behind: Vec<u8>,
     /// The ranks that have come to their end.
     pub ended: Vec<u8>,
@@ -93,7 +93,7 @@ impl Standstill {
             .any(|stuck| stuck.rank == rank && stuck.waits_for_one(ranks))
     }
 
-    /// Whether each rank that waits is in the circle or in `behind`.
+    /// Whether each rank that waits is in the cycle or in `behind`.
     fn rest_holds(&self) -> bool
         ensures { result ≡ list_all (behind_holds self.now.circle.items self.now.behind.items) self.now.stuck.items }
     {
@@ -135,7 +135,7 @@ impl Standstill {
     }
 }
 
-/// The stuck ranks outside the circle.
+/// The stuck ranks outside the cycle.
 fn outside(alloc: Global, stuck: &[Stuck], circle: &[u8]) -> Result<Vec<u8>, AllocError> {
     stuck
         .iter()

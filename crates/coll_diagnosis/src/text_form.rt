@@ -17,7 +17,7 @@ use crate::waiting::WaitsFor;
 use coll_snippet::{Page, Paint, Source, push_ranks};
 use std::alloc::{AllocError, Global};
 
-/// The lines of an explanation of the text that has this name: with a shortest circle in full, or with all ranks that wait for themselves.
+/// The lines of an explanation of the text that has this name: with a shortest cycle in full, or with all ranks that wait for themselves.
 pub(crate) fn text_form(
     alloc: Global,
     name: &str,
@@ -109,7 +109,7 @@ struct StallPage<'e> {
 }
 
 impl<'e> StallPage<'e> {
-    /// Reports each rank of the shortest circle.
+    /// Reports each rank of the shortest cycle.
     fn show_ring(&mut self) -> Result<(), AllocError> {
         let shown = self.shown;
         for rank in &shown.ring {
@@ -172,7 +172,7 @@ impl<'e> StallPage<'e> {
         Ok(())
     }
 
-    /// Whether a request is reported: each one if the whole is wanted, else one that lacks a rank of the shortest circle.
+    /// Whether a request is reported: each one if the whole is wanted, else one that lacks a rank of the shortest cycle.
     fn is_shown(&self, request: &Pending) -> bool {
         let ring = &self.shown.ring;
         self.is_whole || request.lacks.iter().any(|lack| ring.contains(&lack.rank))
@@ -220,7 +220,7 @@ impl<'e> StallPage<'e> {
         Ok(())
     }
 
-    /// Reports the members that a request lacks: first those of the shortest circle, then the others in one line, unless the
+    /// Reports the members that a request lacks: first those of the shortest cycle, then the others in one line, unless the
     /// whole is wanted.
     fn show_lacks(&mut self, lacks: &[Lack]) -> Result<(), AllocError> {
         let mut others = Members::NONE;
@@ -256,7 +256,7 @@ impl<'e> StallPage<'e> {
         }
     }
 
-    /// Reports the ranks outside the circle.
+    /// Reports the ranks outside the cycle.
     fn show_others(&mut self) -> Result<(), AllocError> {
         let standstill = &self.shown.standstill;
         self.show_ranks("behind them", &standstill.behind)?;

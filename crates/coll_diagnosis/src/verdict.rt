@@ -13,15 +13,15 @@ use coll_verdict::{
 };
 use std::alloc::Global;
 
-/// Whether the runs of a job stall: in a run that stalls, a rank's thread waits for what never comes.
+/// Whether the runs of a job deadlock: in a run that deadlocks, a rank's thread waits for what never comes.
 #[derive(Clone, Copy, Debug, PartialEq, Eq)]
 pub enum Verdict {
-    /// No run stalls, with any library. This is proved.
+    /// No run deadlocks, with any library. This is proved.
     Never,
-    /// No run stalls in which each request waits for those from whom it hears by this engine's schedules, as in this engine's core; a
-    /// library whose collectives wait for all their members may stall. This is proved.
+    /// No run deadlocks in which each request waits for those from whom it hears by this engine's schedules, as in this engine's core; a
+    /// library whose collectives wait for all their members may deadlock. This is proved.
     NeverHere,
-    /// Neither was shown: that by this engine's schedules no run stalls, or that every one does.
+    /// Neither was shown: that by this engine's schedules no run deadlocks, or that every one does.
     Perhaps,
     /// No run comes to its end in which each request waits for those from whom it hears by this engine's schedules, as in this engine's
     /// core; it wasn't shown of other libraries. This is proved.
@@ -35,7 +35,7 @@ impl Verdict {
     ghost use Rattle.coll_diagnosis.specs.Verdicts.{status_of, is_always_here, is_never, is_proved, IsStatus, Means};
 
     /// Judges the job of a script, by at most four courses. What it says but `Perhaps` was shown to the checkers of `coll_verdict`:
-    /// that no run stalls, by the order in which ranks pass in the course that hinders them most; that every run does, by the stands
+    /// that no run deadlocks, by the order in which ranks pass in the course that hinders them most; that every run does, by the stands
     /// of the course that helps them most. The only refusal is [`Refusal::NoMemory`].
     pub fn of(alloc: Global, script: &Script, job: &Job) -> Result<Verdict, Refusal>
         ensures { IfOk result (λ verdict. Means verdict script.now) }
@@ -49,7 +49,7 @@ impl Verdict {
         Verdict::of_schedules(alloc, script, job)
     }
 
-    /// Whether the runs by this engine's schedules stall.
+    /// Whether the runs by this engine's schedules deadlock.
     fn of_schedules(alloc: Global, script: &Script, job: &Job) -> Result<Verdict, Refusal>
         ensures { IfOk result (λ verdict. Means verdict script.now) }
     {
@@ -63,14 +63,14 @@ impl Verdict {
         Ok(Verdict::Perhaps)
     }
 
-    /// Whether every run by this engine's schedules stalls.
+    /// Whether every run by this engine's schedules deadlocks.
     pub fn is_always_here(self) -> bool
         ensures { result ≡ is_always_here self }
     {
         matches!(self, Verdict::AlwaysHere | Verdict::Always)
     }
 
-    /// Whether no run stalls, with any library.
+    /// Whether no run deadlocks, with any library.
     pub fn is_never(self) -> bool
         ensures { result ≡ is_never self }
     {
@@ -85,8 +85,8 @@ impl Verdict {
         !matches!(self, Verdict::Perhaps)
     }
 
-    /// The exit status: 0 if by this engine's schedules no run stalls, 3 if every one does, and 6 if neither was shown; if
-    /// `is_strict`, also 6 if a run with another library may stall.
+    /// The exit status: 0 if by this engine's schedules no run deadlocks, 3 if every one does, and 6 if neither was shown; if
+    /// `is_strict`, also 6 if a run with another library may deadlock.
     pub fn status(self, is_strict: bool) -> u8
         ensures status { result ≡ status_of is_strict self }
         ensures few { IsStatus result }
@@ -100,7 +100,7 @@ impl Verdict {
     }
 }
 
-/// Whether the course that hinders the ranks most shows that no run stalls, with any library.
+/// Whether the course that hinders the ranks most shows that no run deadlocks, with any library.
 pub(crate) fn is_never_shown(alloc: Global, script: &Script, job: &Job) -> Result<bool, Refusal>
     ensures { IfOk result (λ is_shown. IsTrue is_shown → StallsNever script.now) }
 {
@@ -111,7 +111,7 @@ pub(crate) fn is_never_shown(alloc: Global, script: &Script, job: &Job) -> Resul
     Ok(never_stalls(alloc, script.history(), course.order())?)
 }
 
-/// Whether the course that helps the ranks most shows that every run stalls, with every library.
+/// Whether the course that helps the ranks most shows that every run deadlocks, with every library.
 fn is_always_shown(alloc: Global, script: &Script, job: &Job) -> Result<bool, Refusal>
     ensures { IfOk result (λ is_shown. IsTrue is_shown → StallsAlways script.now) }
 {
@@ -123,7 +123,7 @@ fn is_always_shown(alloc: Global, script: &Script, job: &Job) -> Result<bool, Re
     Ok(always_stalls(alloc, script.history(), &stands)?)
 }
 
-/// Whether the course that hinders the ranks most shows that no run with this library stalls.
+/// Whether the course that hinders the ranks most shows that no run with this library deadlocks.
 fn is_never_here_shown(
     alloc: Global,
     script: &Script,
@@ -140,7 +140,7 @@ fn is_never_here_shown(
     Ok(never_stalls_by(alloc, script.history(), course.order(), library)?)
 }
 
-/// Whether the course that helps the ranks most shows that every run with this library stalls.
+/// Whether the course that helps the ranks most shows that every run with this library deadlocks.
 fn is_always_here_shown(
     alloc: Global,
     script: &Script,

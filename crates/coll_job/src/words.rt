@@ -64,8 +64,8 @@ The schedules of a collective are drawn without a text; what a run did is drawn 
   colljob draw run examples/sum_of_three.job
 
 Exit status: 0 done; 1 a file can't be opened, read fault, write fault; 2 a fault of the text or of the words;
-3 stalled; 4 another refusal of the engine; 5 no memory, no thread, or a report that doesn't agree with the text;
-6 may stall, neither proved to end nor proved to stall.
+3 a deadlock (stalled); 4 another refusal of the engine; 5 no memory, no thread, or a report that doesn't agree with the text;
+6 may deadlock: neither proved to end nor proved to deadlock.
 At a fault standard output stays empty, and standard error has one line, after the name of FILE; `check` reports all
 faults of a text, each with its line.";
 
@@ -76,7 +76,7 @@ fn command<'a>(alloc: Global) -> Result<Command<'a>, AllocError> {
         .bin_name(NAME)?
         .version("0.1.0")
         .about(
-            "Computes what a job's ranks receive by MPI's nonblocking and persistent collectives",
+            "Computes the results of MPI's nonblocking and persistent collectives, finds mismatched calls, explains deadlocks",
         )
         .after_help(FORMAT)
         .subcommand_required(true)
@@ -98,10 +98,10 @@ fn run_command<'a>(alloc: Global) -> Result<Command<'a>, AllocError> {
     let explanation = Arg::new(alloc, EXPLANATION)
         .long("explain")
         .value_name("OUT")
-        .help("Where the run stalls, writes to the file OUT why it does");
+        .help("If the run deadlocks, writes to the file OUT why");
     let run = Command::new(alloc, "run")
         .about(
-            "Runs a job text by threads on one engine, and writes the values that its ranks receive",
+            "Runs a job text with a thread for each rank, and writes the values that the ranks receive",
         )
         .arg(workers_argument(alloc))?
         .arg(quiet)?
@@ -134,9 +134,11 @@ fn explain_command<'a>(alloc: Global) -> Result<Command<'a>, AllocError> {
     let strict = Arg::new(alloc, STRICT)
         .long("strict")
         .action(ArgAction::SetTrue)
-        .help("Exit status 6 also where only the runs of another MPI library may stall");
+        .help("Exit status 6 also if only runs with another MPI library may deadlock");
     Command::new(alloc, "explain")
-        .about("Reports whether a job text's runs stall, and who then waits in which line for whom")
+        .about(
+            "Reports whether a job can deadlock, and shows the cycle: which rank waits in which line for whom",
+        )
         .arg(form)?
         .arg(color_argument(
             alloc,
@@ -152,7 +154,7 @@ pub(crate) fn all_ranks<'a>(alloc: Global) -> Arg<'a> {
     Arg::new(alloc, ALL)
         .long(ALL)
         .action(ArgAction::SetTrue)
-        .help("Every rank that waits in full, and not a shortest circle alone; json always has all")
+        .help("Shows every waiting rank in full, not only a shortest cycle; json always has all")
 }
 
 fn check_command<'a>(alloc: Global) -> Result<Command<'a>, AllocError> {
@@ -166,7 +168,7 @@ fn check_command<'a>(alloc: Global) -> Result<Command<'a>, AllocError> {
         );
     Command::new(alloc, "check")
         .about(
-            "Reports all faults of a job text, with words and what may be meant; where it has none, whether it stalls",
+            "Reports all faults of a job text, such as mismatched calls, with what may be meant; without a fault, whether it can deadlock",
         )
         .arg(form)?
         .arg(color_argument(

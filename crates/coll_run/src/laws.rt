@@ -19,7 +19,7 @@ pub fn runs_mean()
     ensures { RunsMean }
 {}
 
-/// The trace of the worked row is that of a run, so the premises of the laws can be met.
+/// The trace of the test vector is that of a run, so the premises of the laws can be met.
 pub fn row_is_run()
     ensures { RowIsRun }
 {}

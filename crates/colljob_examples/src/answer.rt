@@ -47,7 +47,7 @@ impl Answer {
         }
     }
 
-    /// The lines of an explanation of a stall.
+    /// The lines of an explanation of a deadlock.
     pub fn of_stall(alloc: Global, lines: Vec<u8>) -> Answer {
         Answer {
             status: 3,

@@ -6,7 +6,7 @@ use std::sync::Wait;
 use std::thread::Threads;
 
 /// The stored texts of `draws/`, and the words of a command line that print them: a drawing on standard output (one of waits
-/// with the status of a stall), or on standard error what is wrong with the words.
+/// with the status of a deadlock), or on standard error what is wrong with the words.
 pub const DRAWS: [(&str, &[&str]); 9] = [
     (
         "allreduce_of_six.txt",

@@ -11,10 +11,10 @@ use std::thread::Threads;
 /// The words of a command line after the program's name.
 const PLAIN: &[&str] = &["plain"];
 
-/// The file to which a run that stalls writes its explanation.
+/// The file to which a run that deadlocks writes its explanation.
 const WHY: &str = "why.text";
 
-/// The explanation of a text that never stalls.
+/// The explanation of a text that never deadlocks.
 const NEVER_STALLS: &[u8] = b"never stalls, in any run, with any MPI library (proved)\n";
 
 const RUNS: [&[&str]; 3] = [
@@ -35,8 +35,8 @@ pub struct Example {
 }
 
 impl Example {
-    /// Reads the example of that name: `NAME.job`, and beside it `NAME.out` or `NAME.fault`. If its run by threads stalls,
-    /// `NAME.run` has the line of the stall, and `NAME.explain` the explanation.
+    /// Reads the example of that name: `NAME.job`, and beside it `NAME.out` or `NAME.fault`. If its run by threads deadlocks,
+    /// `NAME.run` has the line of the deadlock, and `NAME.explain` the explanation.
     pub fn read(rt: &HostRuntime, name: &str) -> io::Result<Example> {
         let file = format!(in rt.alloc(); "{name}.job")?;
         let text = fs::read(rt, file.as_str())?;
@@ -104,7 +104,7 @@ impl Example {
         )
     }
 
-    /// Whether a run that stalls writes its explanation to the file that is named, and another run writes none; both answer as
+    /// Whether a run that deadlocks writes its explanation to the file that is named, and another run writes none; both answer as
     /// without that file.
     fn is_run_explained<M: Threads + Wait + Sync + Files + Clock>(
         &self,

@@ -1,5 +1,5 @@
 //! Runs the stored examples, directly and by threads, and compares the answers with the stored ones. The job texts of the
-//! folder in which it runs are compared with the lines or the fault beside them, and with why they stall. It prints a line for
+//! folder in which it runs are compared with the lines or the fault beside them, and with why they deadlock. It prints a line for
 //! each of these texts; then one for each job text of `stalls/`, which are only explained; of `mistakes/`, which are only
 //! checked; and of `runs/`, the files of whose runs are compared; one for files that aren't written; one for files that existed
 //! before; and one for each text of `words/` and `draws/`, which the program prints for words alone. Then it goes on as

@@ -46,7 +46,7 @@ fn as_text(alloc: Global, status: u8, errors: Vec<u8>) -> Answer {
     }
 }
 
-/// The exit status of a check with these lines. A text of `mistakes/` without a fault never stalls.
+/// The exit status of a check with these lines. A text of `mistakes/` without a fault never deadlocks.
 fn status_of(errors: &[u8]) -> u8 {
     let stored = b": no fault\nnever stalls";
     if errors

@@ -112,7 +112,7 @@ fn is_run_shown<M: Threads + Wait + Sync + Files + Clock>(
 }
 
 /// Whether a run whose file can't be written reports this after the file's name, and writes nothing else; and whether a run
-/// that stalls writes no file.
+/// that deadlocks writes no file.
 pub fn is_kept_back<M: Threads + Wait + Sync + Files + Clock>(
     machine: &M,
     alloc: Global,

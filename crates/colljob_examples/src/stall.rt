@@ -68,7 +68,7 @@ fn status_of(lines: &[u8]) -> u8 {
     }
 }
 
-/// The exit status if a stall with another library counts.
+/// The exit status if a deadlock with another library counts.
 fn strict_status_of(lines: &[u8]) -> u8 {
     if lines.starts_with(b"warning: ") {
         6
