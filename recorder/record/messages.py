@@ -12,7 +12,7 @@ from stalls import ALL, MESSAGES, Lane, Stalls
 MOST_NOTED = 6
 
 # Of a long record the run with messages takes so many commands; what a rank would do after them is taken as done.
-MOST_STEPS = 1_000_000
+MOST_STEPS = 400_000
 
 STALLS = "warning: a library whose sends wait for their receives, as for longer rows, and whose collectives for all their members, stalls:"
 
