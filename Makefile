@@ -6,6 +6,8 @@
 # make install     PREFIX= (/usr/local) and DESTDIR=: program, manual pages, completions, headers, library, pkg-config file, and wzrecord with
 #                  a recorder for each MPI library whose compiler is here (MPICC= names one more)
 # make uninstall   the same PREFIX= and DESTDIR=
+# make dist        out/worzsunab-VERSION-MACHINE.tar.gz, an installation that runs where it is unpacked
+# make deb         two Debian packages in out/: worzsunab, and libworzsunab-dev with the C library and its headers
 # make clean       what make made; what is proved stays
 PREFIX ?= /usr/local
 DESTDIR ?=
@@ -74,9 +76,13 @@ uninstall:
 	$(MAKE) --no-print-directory -C bindings uninstall
 	@if [ "$(MPI_CALLS)" ]; then $(MAKE) --no-print-directory -C wzmpi uninstall; fi
 
+# Both say of which commit they are, and whether the program and the library are proved.
+dist deb:
+	@tools/package $@
+
 clean:
 	rm -rf out crates/colljob/out/unproved crates/worzsunab/out/unproved
 	$(MAKE) --no-print-directory -C recorder clean
 	@if [ "$(MPI_CALLS)" ]; then $(MAKE) --no-print-directory -C wzmpi clean; fi
 
-.PHONY: all program library recorder prove theorem check $(PARTS:%=check-%) install install-program install-recorder uninstall clean
+.PHONY: all program library recorder prove theorem dist deb check $(PARTS:%=check-%) install install-program install-recorder uninstall clean

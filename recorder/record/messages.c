@@ -48,7 +48,7 @@ static struct message_class *class_of(struct awaited of) {
         fprintf(stderr, "record: no memory\n");
         abort();
     }
-    *it = (struct message_class){.kind = of.kind, .context = of.context, .rank = of.rank, .tag = of.tag, .number = class_numbers++, .type = -1, .next = *bucket};
+    *it = (struct message_class){.kind = of.kind, .context = of.context, .rank = of.rank, .tag = of.tag, .number = class_numbers++, .type = -1, .count = -1, .next = *bucket};
     *bucket = it;
     char line[128];
     snprintf(line, sizeof line, "class %d %c %d %d %d\n", it->number, of.kind == AWAITED_SEND ? 's' : 'r', of.context, of.rank, of.tag);

@@ -117,8 +117,8 @@ class Messages:
         """The first message of a row of sends that doesn't fit the receive of its number."""
         most = min(sent.count, got.count)
         for number in sorted({it[0] for it in sent.says + got.says if it[0] < most}):
-            mine, theirs = (next(it[1:] for it in reversed(row.says) if it[0] <= number) for row in (sent, got))
-            if mine[0].bytes >= 0 and theirs[0].runs and mine[0].runs and compare_message(*mine[:2], *theirs[:2]) == DIFFERENT:
+            mine, theirs = (next((it[1:] for it in reversed(row.says) if it[0] <= number), None) for row in (sent, got))
+            if mine and theirs and mine[0].runs and theirs[0].runs and compare_message(*mine[:2], *theirs[:2]) == DIFFERENT:
                 return number, mine, theirs
         return None
 

@@ -158,7 +158,7 @@ PROGRAMS.update({
     "right_lost_record": right(3, "no record of rank 1: what these called isn't known", "no fault found in what is there", status=3),
 })
 
-MESSAGES = "no fault: the collective calls agree, and by themselves let no run stall; what else the ranks wait for isn't judged for that"
+MESSAGES = "no fault: the collective calls and the messages agree, and let no run stall, also where sends wait for their receives"
 PROGRAMS.update({
     "right_freed_before_wait": right(2),
     "right_freed_messages": right(2, MESSAGES),
