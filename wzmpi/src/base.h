@@ -24,6 +24,9 @@ enum kind { COMM = 1, GROUP, TYPE, OP, REQUEST, INFO, ERRHANDLER, TAKEN, WINDOW,
 struct table {
     void **objects;
     uint32_t *generations;
+    struct maker {
+        const char *call, *site;
+    } *makers; /* the calls that made them */
     uint32_t many, room, lowest_free;
 };
 
@@ -49,6 +52,8 @@ struct rank {
     atomic_bool ended;
     atomic_int thread; /* the system's number of its main thread; 0 before that begins */
     const char *_Atomic site; /* of its last call */
+    const char *_Atomic call; /* and its name */
+    const char *completes, *completes_at; /* the call whose request this one completes last */
     struct table tables[KINDS];
     struct request *free_requests;
     struct request *let_go; /* messages under way whose requests were freed */

@@ -28,7 +28,7 @@ bool read_called(const struct comm *comm, int member, uint64_t place, struct cal
 
 /* Several calls that make communicators are one collective of the engine. */
 static bool is_other_call(const struct called *one, const struct called *other) {
-    return one->function != other->function || (one->function >= COMM_DUP && one->form == other->form && strcmp(one->name, other->name) != 0);
+    return one->function != other->function || (one->function >= COMM_DUP && ((one->form ^ other->form) & ~IN_PLACE_FORM) == 0 && strcmp(one->name, other->name) != 0);
 }
 
 bool calls_agree(const struct called *one, const struct called *other) {
@@ -38,8 +38,9 @@ bool calls_agree(const struct called *one, const struct called *other) {
 
 const char *what_differs(const struct called *one, const struct called *other) {
     if (is_other_call(one, other)) return "it is another collective";
+    if ((one->form ^ other->form) == IN_PLACE_FORM) return "MPI_IN_PLACE stands at some ranks alone (MPI 4.1, 6)";
     if (one->form != other->form) {
-        bool persistent = one->form == PERSISTENT || other->form == PERSISTENT;
+        bool persistent = (one->form & PERSISTENT) != 0 || (other->form & PERSISTENT) != 0;
         return persistent ? "one is persistent (MPI 4.1, 6.13)" : "a blocking collective doesn't meet a nonblocking one (MPI 4.1, 6.12)";
     }
     if (one->root != other->root) return "the root differs";

@@ -4,6 +4,7 @@
 #include "trace.h"
 #include "record.h"
 #include "diagnostics.h"
+#include "overlap.h"
 
 static const char *name_of(const struct arguments *arguments) {
     return arguments->name != NULL ? arguments->name : collective_names[arguments->function][arguments->form];
@@ -104,6 +105,8 @@ int post_call(struct comm *comm, const struct arguments *arguments, struct reque
     request->arguments = *arguments;
     request->persistent = arguments->form == PERSISTENT;
     int code = validate(request, &called);
+    if (code == MPI_SUCCESS && arguments->function < COMM_DUP) code = judge_received(request, request->name);
+    if (code == MPI_SUCCESS && arguments->function < COMM_DUP && !request->persistent) code = judge_pending(request, request->name);
     if (code == MPI_SUCCESS) {
         request->place = atomic_load_explicit(&comm->members[request->member].posted, memory_order_relaxed);
         write_call(comm, request->member, request->place, &called);

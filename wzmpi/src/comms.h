@@ -9,6 +9,8 @@ enum {
     PLACES_OF_ENGINE = 65536 /* then the next engine serves the communicator */
 };
 
+enum { IN_PLACE_FORM = 8 }; /* beside the form, under --strict: MPI_IN_PLACE stands where all members or none have it */
+
 /* A call at a place of a communicator, as its program has it. */
 struct called {
     uint8_t function, form;
@@ -18,6 +20,7 @@ struct called {
     uint64_t counts;    /* of a call whose members all say all counts: these, as one number */
     uint64_t operation; /* its identity; 0: it has none */
     const char *operation_name, *name, *site;
+    const struct structure *structure; /* of a type of several basic types */
 };
 
 /* A called that others may read while its member writes the next one: it is valid where its place is what is looked for, before and after. */

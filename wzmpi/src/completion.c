@@ -3,6 +3,7 @@
 #include "trace.h"
 #include "record.h"
 #include "diagnostics.h"
+#include "overlap.h"
 #include "test_loops.h"
 
 #include <time.h>
@@ -58,6 +59,8 @@ int complete_request(struct request *request, MPI_Status *status, const char *ca
         return MPI_SUCCESS;
     }
     clear_status(status);
+    current_rank->completes = request->name;
+    current_rank->completes_at = request->started_at;
     if (request->sort != COLLECTIVE) {
         if (!is_done(request)) wait_for(call, only, 1, false);
         finish_freed();
@@ -326,6 +329,9 @@ static int start(MPI_Request handle, const char *call) {
     if (request->active) return refuse(request->comm, MPI_ERR_REQUEST, call, "the request of %s is active still: it was started at %s and not completed since", request->site, request->started_at);
     hold_up();
     if (request->sort != COLLECTIVE) {
+        code = judge_received(request, call);
+        if (code == MPI_SUCCESS) code = judge_pending(request, call);
+        if (code != MPI_SUCCESS) return code;
         lend(request);
         return start_message(request);
     }

@@ -7,6 +7,7 @@
 #include "deadlock_watch.h"
 
 #include "diagnostics.h"
+#include "mailbox.h"
 #include "standing.h"
 #include "test_loops.h"
 #include "per_rank_libc.h"
@@ -124,6 +125,7 @@ static void write_message(FILE *to, const struct request *request) {
     fprintf(to, "\n    %s %s", what, whom);
     if (request->tag >= 0) fprintf(to, ", tag %d", request->tag);
     fprintf(to, ": %s at %s", request->name, request->started_at);
+    write_near_miss(to, request);
 }
 
 void write_awaited(FILE *to, struct request *request, const char *call) {

@@ -153,9 +153,12 @@ const char *called_text(const struct called *called, char text[NAME_TEXT]) {
     size_t at = (size_t)snprintf(text, NAME_TEXT, "%s", called->name);
     if (called->root >= 0) at += (size_t)snprintf(text + at, NAME_TEXT - at, ", root %d", called->root);
     if (called->operation != 0) at += (size_t)snprintf(text + at, NAME_TEXT - at, ", %s", called->operation_name);
+    if ((called->form & IN_PLACE_FORM) != 0) at += (size_t)snprintf(text + at, NAME_TEXT - at, ", MPI_IN_PLACE");
     if (called->function == BARRIER || called->function >= COMM_DUP || called->function == ALLGATHERV) return text;
     bool moves = called->elements > 0 || called->basic >= 0;
     if (called->basic > 0) snprintf(text + at, NAME_TEXT - at, ", %llu %s", (unsigned long long)called->elements, basic_type(called->basic)->name);
+    else if (moves && called->structure != NULL && called->structure->elements > 0)
+        snprintf(text + at, NAME_TEXT - at, ", %llu of {%s}", (unsigned long long)(called->elements / called->structure->elements), called->structure->text);
     else if (moves) snprintf(text + at, NAME_TEXT - at, ", %llu elements of several types", (unsigned long long)called->elements);
     else if (called->function != ALLTOALLV && called->function != ALLTOALLW && called->function != GATHERV && called->function != SCATTERV &&
              !is_neighbor(called->function)) snprintf(text + at, NAME_TEXT - at, ", no elements");

@@ -22,6 +22,7 @@ static uint32_t free_number(struct table *table) {
         table->room = 2 * table->room + 16;
         table->objects = must(realloc(table->objects, sizeof *table->objects * table->room));
         table->generations = must(realloc(table->generations, sizeof *table->generations * table->room));
+        table->makers = must(realloc(table->makers, sizeof *table->makers * table->room));
     }
     if (at == table->many) table->generations[table->many++] = 0;
     return at;
@@ -35,6 +36,7 @@ uintptr_t add_handle(enum kind kind, void *object) {
         _exit(1);
     }
     table->objects[at] = object;
+    table->makers[at] = (struct maker){ atomic_load(&current_rank->call), atomic_load(&current_rank->site) };
     table->lowest_free = at + 1;
     return (uintptr_t)kind << 56 | (uintptr_t)table->generations[at] << TABLE_NUMBER_BITS | (at + FIRST_MADE);
 }

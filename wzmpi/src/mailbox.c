@@ -3,6 +3,7 @@
 #include "mailbox.h"
 
 #include "diagnostics.h"
+#include "warnings.h"
 
 /* A rank's mail: what has come and nobody has asked for, and the receives that nothing has come for, each in its order. */
 struct mailbox {
@@ -20,16 +21,66 @@ void open_mailboxes(int many) {
     }
 }
 
-/* Each message has to be received before MPI_Finalize (MPI 4.1, 11.2.2). */
+/* Each message has to be received before MPI_Finalize (MPI 4.1, 11.2.2). Those of one line of one rank are told together. */
 void warn_of_mail(void) {
-    for (int i = 0; i < the_run.size; i++) {
-        const struct message *first = NULL;
-        int many = 0;
-        for (const struct message *message = mailboxes[i].oldest; message != NULL; message = message->later)
-            if (message->tag >= 0 && many++ == 0) first = message;
-        if (first == NULL) continue;
-        print_warning("rank %d never received %d of the messages that were sent to it: the first is of rank %d, tag %d, sent at %s", i, many, first->author->number, first->tag, first->site);
+    char key[700];
+    for (int i = 0; i < the_run.size; i++)
+        for (const struct message *message = mailboxes[i].oldest; message != NULL; message = message->later) {
+            if (message->tag < 0) continue;
+            snprintf(key, sizeof key, "mail of rank %d at %s", message->author->number, message->site);
+            warn_at_end(i, key, "never received: what rank %d sent with tag %d at %s", message->author->number, message->tag, message->site);
+        }
+}
+
+static struct mailbox *mailbox_of(const struct comm *comm, int member);
+
+/* How nearly a message is what a receive or a probe asks for: all but the tag, the sender or the communicator. 0: it isn't near. */
+static int nearness(const struct request *receive, const struct message *message) {
+    int other;
+    far_group_from(receive->comm, receive->member, &other);
+    bool comm = message->comm == receive->comm->serial, tag = message->tag >= 0 && (receive->tag == MPI_ANY_TAG || receive->tag == message->tag);
+    bool any = receive->other == MPI_ANY_SOURCE, sender = any || receive->comm->members[other + receive->other].rank == message->author->number;
+    if (message->tag < 0) return 0;
+    return comm && sender && !tag ? 3 : comm && tag && !sender ? 2 : !comm && tag && sender && !any ? 1 : 0;
+}
+
+static const char *const near_to[] = { "", " on another communicator", " from another rank", " with another tag" };
+
+static void write_near_message(FILE *to, const struct request *receive) {
+    struct mailbox *box = mailbox_of(receive->comm, receive->member);
+    const struct message *nearest = NULL;
+    pthread_mutex_lock(&box->lock);
+    for (const struct message *message = box->oldest; message != NULL; message = message->later)
+        if (nearness(receive, message) > (nearest != NULL ? nearness(receive, nearest) : 0)) nearest = message;
+    if (nearest != NULL)
+        fprintf(to, "\n      rank %d sent one%s, tag %d, at %s, which nobody has received", nearest->author->number,
+                nearness(receive, nearest) == 2 ? "" : near_to[nearness(receive, nearest)], nearest->tag, nearest->site);
+    pthread_mutex_unlock(&box->lock);
+}
+
+/* The receive that its receiver has under way which nearly asks for what is sent. */
+static void write_near_receive(FILE *to, const struct request *send) {
+    int other;
+    if (send->other < 0) return;
+    far_group_from(send->comm, send->member, &other);
+    struct mailbox *box = mailbox_of(send->comm, other + send->other);
+    const struct rank *author = &the_run.ranks[send->comm->members[send->member].rank];
+    struct message sent = { .comm = send->comm->serial, .tag = send->tag, .author = (struct rank *)(uintptr_t)author };
+    const struct request *nearest = NULL;
+    pthread_mutex_lock(&box->lock);
+    for (const struct request *receive = box->first; receive != NULL; receive = receive->next)
+        if (nearness(receive, &sent) > (nearest != NULL ? nearness(nearest, &sent) : 0)) nearest = receive;
+    if (nearest != NULL) {
+        fprintf(to, "\n      rank %d has a receive%s", send->comm->members[other + send->other].rank, near_to[nearness(nearest, &sent)]);
+        if (nearest->tag >= 0) fprintf(to, ", tag %d", nearest->tag);
+        fprintf(to, ": %s at %s", nearest->name, nearest->started_at);
     }
+    pthread_mutex_unlock(&box->lock);
+}
+
+void write_near_miss(FILE *to, const struct request *request) {
+    if (request->sort == RECEIVING || request->sort == PROBING) write_near_message(to, request);
+    else if (request->sort == SENDING) write_near_receive(to, request);
 }
 
 static struct mailbox *mailbox_of(const struct comm *comm, int member) { return &mailboxes[comm->members[member].rank]; }

@@ -32,6 +32,8 @@ void receive_taken(struct message *message, struct request *receive);
 bool cancel_receive(struct request *receive);
 /* Gives up a send whose message nobody has received. Whether it could. */
 bool cancel_send(struct request *send);
+/* A line, begun by its end, of what came or is asked for that is nearly what a message's request waits for. For the thread that watches. */
+void write_near_miss(FILE *to, const struct request *request);
 void write_status(MPI_Status *status, const struct message *message); /* NULL: of MPI_PROC_NULL */
 
 /* ---- messages.c: the arguments of a message's call */

@@ -1,6 +1,8 @@
 /* The calls that send and receive. */
 #include "counted.h"
+#include "loans.h"
 #include "mailbox.h"
+#include "overlap.h"
 #include "trace.h"
 #include "diagnostics.h"
 #include "window.h"
@@ -145,11 +147,21 @@ int make_message(const struct words *words, enum sort sort, bool synchronous, st
     return code;
 }
 
+/* Whether it may use the memory; else it is dropped. */
+static int judge_memory(struct request *request, const char *call) {
+    int code = judge_received(request, call);
+    if (code == MPI_SUCCESS) code = judge_pending(request, call);
+    if (code != MPI_SUCCESS) drop_request(request);
+    return code;
+}
+
 static int blocking(const struct words *words, enum sort sort, bool synchronous, MPI_Status *status) {
     struct request *request;
     int code = make_message(words, sort, synchronous, &request);
     if (code != MPI_SUCCESS) return code;
     hold_up();
+    code = judge_memory(request, words->call);
+    if (code != MPI_SUCCESS) return code;
     start_message(request);
     return complete_request(request, status, words->call);
 }
@@ -159,6 +171,8 @@ static int nonblocking(const struct words *words, enum sort sort, bool synchrono
     int code = make_message(words, sort, synchronous, &made);
     if (code != MPI_SUCCESS) return code;
     hold_up();
+    code = judge_memory(made, words->call);
+    if (code != MPI_SUCCESS) return code;
     *request = publish(made);
     lend(made);
     return start_message(made);
@@ -198,6 +212,12 @@ static int both(const struct words *sent, const struct words *received, MPI_Stat
     if (code == MPI_SUCCESS) code = make_message(sent, SENDING, the_run.strict, &send);
     if (code != MPI_SUCCESS) return code;
     hold_up();
+    if (receive->other != MPI_PROC_NULL && send->other != MPI_PROC_NULL && pieces_overlap(received_piece(receive, 0), sent_piece(send, 0)))
+        code = refuse(receive->comm, MPI_ERR_BUFFER, received->call, "the send and the receive buffer overlap, for which MPI has MPI_Sendrecv_replace");
+    if (code == MPI_SUCCESS) code = judge_memory(receive, received->call);
+    else drop_request(receive);
+    if (code != MPI_SUCCESS) drop_request(send);
+    if (code != MPI_SUCCESS) return code;
     start_message(receive);
     start_message(send);
     code = complete_request(receive, status, received->call);

@@ -75,13 +75,34 @@ static uintptr_t identity_of(void *function, const char **name) {
     return PREDEFINED + (uintptr_t)function - (uintptr_t)about.dli_fbase;
 }
 
+/* A static function has no name that can be found, so its operation is called by the line that makes it: one text for each such line. */
+static const char *name_by_line(const char *call) {
+    static struct named {
+        const char *text;
+        struct named *next;
+    } *first;
+    static pthread_mutex_t guard = PTHREAD_MUTEX_INITIALIZER;
+    char text[600];
+    snprintf(text, sizeof text, "the operation of %s at %s", call, atomic_load(&current_rank->site));
+    pthread_mutex_lock(&guard);
+    struct named *named = first;
+    while (named != NULL && strcmp(named->text, text) != 0) named = named->next;
+    if (named == NULL) {
+        named = must(malloc(sizeof *named));
+        *named = (struct named){ must(strdup(text)), first };
+        first = named;
+    }
+    pthread_mutex_unlock(&guard);
+    return named->text;
+}
+
 static int create(MPI_User_function *user, MPI_User_function_c *wide, int commutes, MPI_Op *made, const char *call) {
     if (user == NULL && wide == NULL) return refuse(NULL, MPI_ERR_ARG, call, "there is no function");
     const char *name;
     struct op *op = must(calloc(1, sizeof *op));
     *op = (struct op){ .user = user, .user_wide = wide, .commutes = commutes != 0, .uses = 1 };
     op->identity = identity_of(user != NULL ? (void *)(uintptr_t)user : (void *)(uintptr_t)wide, &name);
-    op->name = name != NULL ? name : "an operation of the program"; /* both stay as long as the run */
+    op->name = name != NULL ? name : name_by_line(call); /* both stay as long as the run */
     *made = (MPI_Op)add_handle(OP, op);
     return MPI_SUCCESS;
 }

@@ -7,6 +7,7 @@
 #include "rank_copies.h"
 #include "signals.h"
 #include "threads.h"
+#include "warnings.h"
 #include "record.h"
 #include "diagnostics.h"
 
@@ -65,13 +66,26 @@ static const char *find_program(const char *name) {
 static const int crashes[] = { SIGSEGV, SIGBUS, SIGFPE, SIGILL, SIGABRT };
 static const char *const crash_names[] = { "segmentation fault", "bus error", "arithmetic error", "illegal instruction", "abort" };
 
+/* In a call of MPI what isn't there is the program's buffer, or what a function of the program uses that the call calls. */
+static int write_crash(char *text, size_t room, const char *name, const void *address) {
+    const struct rank *me = current_rank;
+    const char *site = atomic_load(&me->site), *call = atomic_load(&me->call);
+    char completed[500] = "";
+    if (!is_inside_call() || address == NULL) return snprintf(text, room, "wzrun: rank %d crashes: %s, after its call at %s\n", me->number, name, site);
+    if (me->completes != NULL && (strstr(call, "Wait") != NULL || strstr(call, "Test") != NULL))
+        snprintf(completed, sizeof completed, ", which completes %s at %s", me->completes, me->completes_at);
+    return snprintf(text, room, "wzrun: rank %d crashes: %s in %s at %s%s: memory at %p isn't there; a buffer was freed or unmapped, or is shorter than the call says\n", me->number, name,
+                    call, site, completed, address);
+}
+
 /* A crash of one rank ends all. */
-static void tell_crash(int number) {
-    char text[500];
+static void tell_crash(int number, siginfo_t *about, void *context) {
+    char text[1500];
+    (void)context;
     const char *name = "a signal";
     for (int i = 0; i < 5; i++)
         if (crashes[i] == number) name = crash_names[i];
-    int length = current_rank == NULL ? 0 : snprintf(text, sizeof text, "wzrun: rank %d crashes: %s, after its call at %s\n", current_rank->number, name, atomic_load(&current_rank->site));
+    int length = current_rank == NULL ? 0 : write_crash(text, sizeof text, name, number == SIGSEGV || number == SIGBUS ? about->si_addr : NULL);
     if (length > 0 && write(2, text, (size_t)length) < 0) _exit(128 + number);
     signal(number, SIG_DFL);
     raise(number);
@@ -79,7 +93,7 @@ static void tell_crash(int number) {
 
 /* A sanitizer that is there already keeps its handlers. */
 static void tell_crashes(void) {
-    struct sigaction before, action = { .sa_handler = tell_crash, .sa_flags = SA_ONSTACK | SA_NODEFER };
+    struct sigaction before, action = { .sa_sigaction = tell_crash, .sa_flags = SA_ONSTACK | SA_NODEFER | SA_SIGINFO };
     sigemptyset(&action.sa_mask);
     for (int i = 0; i < 5; i++)
         if (sigaction(crashes[i], NULL, &before) == 0 && before.sa_handler == SIG_DFL) sigaction(crashes[i], &action, NULL);
@@ -96,7 +110,7 @@ static void *play(void *given) {
     be_main();
     if (!the_run.one_folder) unshare(CLONE_FS);
     me->status = run_main(start->run, start->argc, start->argv);
-    if (me->begun && !atomic_load(&me->finalized) && me->status == 0) print_warning("rank %d ended without MPI_Finalize", me->number);
+    if (me->begun && !atomic_load(&me->finalized) && me->status == 0) warn_at_end(me->number, NULL, "ended without MPI_Finalize");
     sigaltstack(&none, NULL);
     free(stack.ss_sp);
     atomic_store(&me->ended, true);
@@ -158,6 +172,8 @@ static int run_ranks(int argc, char **argv, const struct options *options) {
     watch_ranks(size);
     for (int i = 0; i < size && status == 0; i++) status = the_run.ranks[i].status;
     if (status == 0) warn_of_mail();
+    flush_streams();
+    tell_warnings();
     return status;
 }
 

@@ -23,6 +23,8 @@ void be_main(void) { main_thread = true; }
 
 bool is_main(void) { return main_thread; }
 
+bool is_inside_call(void) { return depth > 0; }
+
 bool has_threads(const struct rank *rank) { return atomic_load(&threads[rank->number].several); }
 
 static const char *line_text(void) { return line != NULL ? line : "a line that isn't known"; }
@@ -89,6 +91,7 @@ void enter_call(const char *call, const void *from) {
         if (rank->begun) judge_thread(rank, call);
     }
     if (line != NULL) atomic_store_explicit(&rank->site, line, memory_order_relaxed);
+    atomic_store_explicit(&rank->call, call, memory_order_relaxed);
     atomic_store_explicit(&rank->lines, atomic_load_explicit(&rank->lines, memory_order_relaxed) + 1, memory_order_relaxed);
 }
 

@@ -14,6 +14,7 @@ void come_back(void);
 
 void be_main(void); /* this thread is its rank's main one */
 bool is_main(void);
+bool is_inside_call(void);
 bool has_threads(const struct rank *rank); /* several have called, under MPI_THREAD_MULTIPLE */
 
 #endif

@@ -48,7 +48,43 @@ void give_topology(MPI_Comm handle, struct topology topology) {
     pthread_mutex_unlock(&comm->guard);
     struct topology *own = must(malloc(sizeof *own));
     *own = topology;
+    pthread_mutex_lock(&comm->guard);
     comm->topologies[my_member(comm)] = own;
+    pthread_mutex_unlock(&comm->guard);
+}
+
+static bool same_numbers(const int *one, const int *other, int many, bool as_truth) {
+    for (int i = 0; i < many; i++)
+        if (as_truth ? (one[i] != 0) != (other[i] != 0) : one[i] != other[i]) return false;
+    return true;
+}
+
+/* What differs between two members' grids or graphs, which have to be alike (MPI 4.1, 8.5.1 and 8.5.3). NULL: nothing. */
+static const char *difference(const struct topology *one, const struct topology *other) {
+    if (one->kind == MPI_GRAPH) {
+        bool same = one->nodes == other->nodes && same_numbers(one->index, other->index, one->nodes, false);
+        int edges = one->nodes > 0 ? one->index[one->nodes - 1] : 0;
+        return same && same_numbers(one->edges, other->edges, edges, false) ? NULL : "another graph";
+    }
+    if (one->dimensions != other->dimensions) return "another number of dimensions";
+    if (!same_numbers(one->sizes, other->sizes, one->dimensions, false)) return "other sizes of dimensions";
+    return same_numbers(one->periods, other->periods, one->dimensions, true) ? NULL : "other periods";
+}
+
+/* Compares this member's with those of the members that have come so far. */
+static int judge_alike(MPI_Comm handle, const char *call) {
+    struct comm *comm = find_comm(handle);
+    const struct topology *own = topology_of(comm);
+    const char *what = NULL;
+    int rank = -1;
+    pthread_mutex_lock(&comm->guard);
+    for (int i = 0; i < comm->size && what == NULL; i++) {
+        if (comm->topologies[i] == NULL || comm->topologies[i]->kind != own->kind) continue;
+        what = difference(own, comm->topologies[i]);
+        rank = comm->members[i].rank;
+    }
+    pthread_mutex_unlock(&comm->guard);
+    return what == NULL ? MPI_SUCCESS : refuse(comm, MPI_ERR_ARG, call, "rank %d says %s", rank, what);
 }
 
 static int *copy_of_some(const int *numbers, int many) { return numbers != NULL ? copy_of(numbers, many) : NULL; }
@@ -125,8 +161,9 @@ int MPI_Cart_create(MPI_Comm handle, int dimensions, const int sizes[], const in
     }
     if (all > comm->size) return refuse(comm, MPI_ERR_ARG, call, "the grid has more ranks than the communicator, which has %d", comm->size);
     code = make(comm, (int)all, call, made);
-    if (code == MPI_SUCCESS && *made != MPI_COMM_NULL) give_topology(*made, grid(dimensions, sizes, periods, my_member(comm)));
-    return code;
+    if (code != MPI_SUCCESS || *made == MPI_COMM_NULL) return code;
+    give_topology(*made, grid(dimensions, sizes, periods, my_member(comm)));
+    return judge_alike(*made, call);
 }
 
 int MPI_Cartdim_get(MPI_Comm comm, int *dimensions) {
@@ -250,7 +287,7 @@ int MPI_Graph_create(MPI_Comm handle, int nodes, const int index[], const int ed
     int from = me > 0 ? index[me - 1] : 0, own = index[me] - from;
     give_topology(*made, (struct topology){ .kind = MPI_GRAPH, .nodes = nodes, .index = copy_of(index, nodes), .edges = copy_of(edges, many), .in = own, .out = own,
                                             .sources = copy_of(edges + from, own), .destinations = copy_of(edges + from, own) });
-    return code;
+    return judge_alike(*made, call);
 }
 
 int MPI_Graph_neighbors_count(MPI_Comm handle, int rank, int *many) {

@@ -226,6 +226,42 @@ MPI_Datatype handle_of_type(struct type *type) {
     return short_handle(add_handle(TYPE, type));
 }
 
+/* ---- what a type is made of */
+
+static struct structure *structures;
+static pthread_mutex_t structures_guard = PTHREAD_MUTEX_INITIALIZER;
+
+static void write_structure(struct structure *structure, const struct type *type) {
+    size_t at = 0, room = sizeof structure->text;
+    structure->elements = type->signature.elements;
+    structure->text[0] = '\0';
+    for (size_t i = 0; i < type->many && at + 40 < room; i++) {
+        const struct run_of *run = &type->runs[i];
+        at += (size_t)snprintf(structure->text + at, room - at, i > 0 ? ", " : "");
+        if (at + 36 > room && i + 1 < type->many) snprintf(structure->text + at, room - at, "..");
+        else if (run->many == 1) at += (size_t)snprintf(structure->text + at, room - at, "%s", basics[run->basic].name);
+        else at += (size_t)snprintf(structure->text + at, room - at, "%zu %s", run->many, basics[run->basic].name);
+    }
+}
+
+const struct structure *structure_of(const struct type *type) {
+    struct structure own;
+    if (type->structure != NULL) return type->structure;
+    write_structure(&own, type);
+    pthread_mutex_lock(&structures_guard);
+    struct structure *found = structures;
+    while (found != NULL && (found->elements != own.elements || strcmp(found->text, own.text) != 0)) found = found->next;
+    if (found == NULL) {
+        found = must(malloc(sizeof *found));
+        *found = own;
+        found->next = structures;
+        structures = found;
+    }
+    pthread_mutex_unlock(&structures_guard);
+    if (!type->predefined) ((struct type *)(uintptr_t)type)->structure = found;
+    return found;
+}
+
 /* ---- bytes */
 
 void pack(const struct type *type, size_t many, const void *from, void *bytes) {

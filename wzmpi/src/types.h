@@ -36,6 +36,13 @@ struct contents {
     const struct type **part;
 };
 
+/* What a type of several basic types is made of, as text. It stays as long as the run, for others read it. */
+struct structure {
+    uint64_t elements;
+    char text[100];
+    struct structure *next;
+};
+
 struct type {
     const char *name;
     size_t size;            /* bytes of its elements alone */
@@ -52,6 +59,7 @@ struct type {
     int combiner; /* how it was made (MPI 4.1, 5.1.13): the call, and its arguments */
     struct contents contents;
     struct attribute *attributes;
+    const struct structure *structure; /* NULL: nobody has asked for it */
     int uses;
 };
 
@@ -77,6 +85,7 @@ void type_unuse(const struct type *type);
 struct signature type_signature(const struct type *type, uint64_t many);
 struct signature spread_of(const struct type *type, uint64_t many);
 size_t value_size(int basic); /* of a pair that is as a structure has it; 0: it is none */
+const struct structure *structure_of(const struct type *type);
 int type_error(MPI_Datatype type, const char *call); /* tells what is wrong with it */
 
 /* Copies MANY elements of a type from or to bytes without gaps. */

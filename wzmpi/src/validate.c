@@ -348,6 +348,12 @@ static void write_block(struct called *called, const struct type *type, long lon
     called->elements = signature.elements;
     called->signature = signature.hash;
     called->basic = (int16_t)(signature.elements > 0 ? type->basic : -1);
+    called->structure = called->basic == 0 ? structure_of(type) : NULL;
+}
+
+/* MPI_IN_PLACE has to stand at all members (MPI 4.1, 6.7, 6.8 and 6.9.6). */
+static bool is_in_place_for_all(enum function function) {
+    return function == ALLGATHER || function == ALLGATHERV || function == ALLTOALL || function == ALLTOALLV || function == ALLTOALLW || function == ALLREDUCE;
 }
 
 static void write_called(struct judging *judging, struct called *called) {
@@ -355,6 +361,7 @@ static void write_called(struct judging *judging, struct called *called) {
     const struct request *request = judging->request;
     *called = (struct called){ .function = (uint8_t)judging->function, .form = (uint8_t)call->form, .basic = -1, .root = -1, .name = request->name, .site = request->site };
     if (judging->inter || judging->function >= NEIGHBOR_ALLGATHER) return;
+    if (the_run.strict && in_place(call->give) && is_in_place_for_all(judging->function)) called->form |= IN_PLACE_FORM;
     if (is_rooted(judging->function)) called->root = call->root;
     if (request->op != NULL) {
         called->operation = request->op->identity;

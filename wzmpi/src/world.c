@@ -4,6 +4,7 @@
 #include "diagnostics.h"
 #include "per_rank_libc.h"
 #include "threads.h"
+#include "warnings.h"
 
 #include <dlfcn.h>
 #include <time.h>
@@ -106,13 +107,7 @@ int MPI_Finalize(void) {
     if (!me->begun || me->finalized) return refuse(NULL, MPI_ERR_OTHER, "MPI_Finalize", me->begun ? "MPI_Finalize was called before" : "MPI_Init wasn't called before");
     delete_attributes(find_comm(MPI_COMM_SELF), MPI_COMM_SELF);
     delete_attributes(world_comm(), MPI_COMM_WORLD);
-    for (uint32_t i = 0; i < me->tables[REQUEST].many; i++) {
-        struct request *request = me->tables[REQUEST].objects[i];
-        char text[NAME_TEXT];
-        if (request == NULL || !request->active) continue;
-        print_warning("rank %d calls MPI_Finalize at %s, and its request of %s at %s on %s was never completed", me->number, me->site, request->name, request->started_at,
-                comm_name(request->comm, text));
-    }
+    warn_of_left(me);
     me->finalized = true;
     return MPI_SUCCESS;
 }

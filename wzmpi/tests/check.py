@@ -20,6 +20,7 @@ import tempfile
 import check_calling
 import check_processes
 import check_standing
+import check_thorough
 import check_threads
 from checking import HERE, compiled, run
 
@@ -244,7 +245,7 @@ def main():
     binaries = pathlib.Path(words[0]).resolve()
     with tempfile.TemporaryDirectory() as folder:
         out = pathlib.Path(folder)
-        failed = check_wrong(binaries, out, only, write)
+        failed = check_wrong(binaries, out, only, write) + check_thorough.check_said(binaries, out, only, write)
         if not write:
             failed += check_right(binaries, out, only)
         if not write and not only:

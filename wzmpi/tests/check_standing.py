@@ -22,6 +22,7 @@ LOOPS = {
     for MPI_Barrier, place 0 of MPI_COMM_WORLD, which rank 1 has not called
   rank 1 tests in vain in MPI_Iprobe at loops.c:25
     for a message from rank 0, tag 4: MPI_Iprobe at loops.c:25
+      rank 0 sent one with another tag, tag 5, at loops.c:24, which nobody has received
   so they wait for one another: 0 -> 1 -> 0
 """),
     "until": (0, NOT_SURE + """  ranks 0 and 2 wait in MPI_Barrier at loops.c:43
@@ -55,32 +56,51 @@ def check_loops(binaries, program):
 
 
 def check_timeout(binaries, program, text):
-    words = ["-n", "5", "--timeout", "1.5", "--text", str(text)]
+    words = ["-n", "5", "--timeout", "5", "--text", str(text)]
     status, said = run([str(binaries / "wzrun"), *words, str(program), "computing"])
-    right = (status, plain(said)) == (124, f"wzrun: --timeout ends the run after 1.5 s: here the ranks stand:\n{STANDING}") and "post 0 barrier" in text.read_text()
+    right = (status, plain(said)) == (124, f"wzrun: --timeout ends the run after 5 s: here the ranks stand:\n{STANDING}") and "post 0 barrier" in text.read_text()
     return reported(right, f"loops computing, --timeout: status {status}:\n{said}")
 
 
-def check_signals(binaries, program, timeline):
+def ask_until_steady(running, said):
+    """Asks by SIGQUIT until all ranks stand where they stay: on a busy machine that takes a while."""
+    for _ in range(120):
+        time.sleep(0.5)
+        running.send_signal(signal.SIGQUIT)
+        if f"wzrun: SIGQUIT: here the ranks stand:\n{STANDING}" in plain(said.read_text()):
+            return True
+    return False
+
+
+def with_signals():
+    """A shell gives programs in its background SIGINT and SIGQUIT as ignored."""
+    signal.signal(signal.SIGINT, signal.SIG_DFL)
+    signal.signal(signal.SIGQUIT, signal.SIG_DFL)
+
+
+def check_signals(binaries, program, out):
     """SIGQUIT is answered, and the run goes on until SIGINT or SIGTERM."""
-    failed = 0
+    failed, said, timeline = 0, out / "loops.said", out / "loops.json"
     for number in (signal.SIGINT, signal.SIGTERM):
         timeline.unlink(missing_ok=True)
         words = [str(binaries / "wzrun"), "-n", "5", "--timeline", str(timeline), str(program), "computing"]
-        running = subprocess.Popen(words, stdout=subprocess.PIPE, stderr=subprocess.STDOUT, text=True)
-        time.sleep(1.5)
-        running.send_signal(signal.SIGQUIT)
-        time.sleep(1)
+        with said.open("w") as to:
+            running = subprocess.Popen(words, stdout=to, stderr=to, preexec_fn=with_signals)  # pylint: disable=subprocess-popen-preexec-fn
+        steady = ask_until_steady(running, said)
         running.send_signal(number)
-        said, _ = running.communicate(timeout=60)
-        wanted = f"wzrun: SIGQUIT: here the ranks stand:\n{STANDING}wzrun: {number.name} ends the run: here the ranks stand:\n{STANDING}"
-        right = running.returncode == 128 + number and plain(said) == wanted and timeline.exists()
-        failed += reported(right, f"loops computing, {number.name}: status {running.returncode}:\n{said}")
+        try:
+            running.wait(timeout=60)
+        except subprocess.TimeoutExpired:
+            running.kill()
+            running.wait()
+        told = plain(said.read_text()).endswith(f"wzrun: {number.name} ends the run: here the ranks stand:\n{STANDING}")
+        right = steady and told and running.returncode == 128 + number and timeline.exists()
+        failed += reported(right, f"loops computing, {number.name}: status {running.returncode}:\n{said.read_text()}")
     return failed
 
 
 def check(binaries, out):
     program = compiled(binaries, HERE / "loops.c", out / "loops")
-    failed = check_loops(binaries, program) + check_timeout(binaries, program, out / "loops.job") + check_signals(binaries, program, out / "loops.json")
+    failed = check_loops(binaries, program) + check_timeout(binaries, program, out / "loops.job") + check_signals(binaries, program, out)
     print("check.py: it is told where ranks stand" if failed == 0 else f"check.py: {failed} runs of loops.c failed")
     return failed

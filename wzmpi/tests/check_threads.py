@@ -47,7 +47,7 @@ def check_right(binaries, program):
 def check(binaries, out):
     program = compiled(binaries, HERE / "threads.c", out / "threads")
     failed = check_wrong(binaries, program) + check_right(binaries, program)
-    status, said = run([str(binaries / "wzrun"), "-n", "2", "--timeout", "6", str(program), "waiting"])
+    status, said = run([str(binaries / "wzrun"), "-n", "2", "--timeout", "12", str(program), "waiting"])
     failed += reported(status == 124 and said.replace(f"{HERE}/", "").startswith(WAITING), f"threads waiting: status {status}:\n{said}")
     print("check.py: threads of a rank call as their level allows" if failed == 0 else f"check.py: {failed} runs of threads.c failed")
     return failed

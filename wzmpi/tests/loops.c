@@ -39,7 +39,7 @@ static void several(void) {
 /* The loop ends by the time. */
 static void until(void) {
     int done = 0;
-    for (double end = MPI_Wtime() + 4; rank == 1 && !done && MPI_Wtime() < end;) MPI_Iprobe(0, 4, MPI_COMM_WORLD, &done, MPI_STATUS_IGNORE);
+    for (double end = MPI_Wtime() + 6; rank == 1 && !done && MPI_Wtime() < end;) MPI_Iprobe(0, 4, MPI_COMM_WORLD, &done, MPI_STATUS_IGNORE);
     MPI_Barrier(MPI_COMM_WORLD);
 }
 /* Right: rank 1 tests for seconds, and then what it tests for comes, of a rank that only computes. */
