@@ -1,6 +1,7 @@
-/* Carries out job texts over an MPI library, each process as one rank: mpirun -n 4 run_text TEXT ... A text of fewer ranks than there
+/* Carries out job texts over an MPI library, each process as one rank: mpirun -n 4 colljob-mpi TEXT ... A text of fewer ranks than there
    are processes leaves the others idle. Standard output has the lines of `colljob plain`, after `text NAME` where more than one was
-   named. What a text may say is in docs/JOB_TEXT.md; run_text trusts that it has no fault, and stops at what it can't carry out. */
+   named; with --compare it has what differs from them. What a text may say is in docs/JOB_TEXT.md; colljob-mpi trusts that it has no fault,
+   and stops at what it can't carry out. */
 #define _POSIX_C_SOURCE 200809L
 #include <ctype.h>
 #include <errno.h>
@@ -11,6 +12,8 @@
 #include <stdio.h>
 #include <stdlib.h>
 #include <string.h>
+#include <sys/wait.h>
+#include <unistd.h>
 #ifdef OPEN_MPI
 #include <mpi-ext.h>
 #endif
@@ -104,7 +107,7 @@ static void stop(const char *name, int line, const char *format, ...) {
         snprintf(where, sizeof where, "line %d: ", line);
     if (reading && process > 0)
         MPI_Barrier(MPI_COMM_WORLD);
-    fprintf(stderr, "run_text: %s: %s%s\n", name, where, reason);
+    fprintf(stderr, "colljob-mpi: %s: %s%s\n", name, where, reason);
     MPI_Abort(MPI_COMM_WORLD, 2);
     exit(2);
 }
@@ -574,12 +577,34 @@ static struct output end_requests(struct player *player) {
     return all;
 }
 
+/* The texts that were played, with their lines, where these are compared. */
+static struct {
+    bool wanted;
+    int count;
+    struct played {
+        const char *name;
+        struct output lines;
+    } *texts;
+} compared;
+
+/* Writes lines, or keeps them. */
+static void tell(const char *bytes, size_t length) {
+    if (!compared.wanted) {
+        fwrite(bytes, 1, length, stdout);
+        return;
+    }
+    struct output *lines = &compared.texts[compared.count - 1].lines;
+    lines->bytes = must(realloc(lines->bytes, lines->length + length + 1));
+    memcpy(lines->bytes + lines->length, bytes, length);
+    lines->bytes[lines->length += length] = '\0';
+}
+
 static void print_lines(struct output *mine, int rank, int ranks, MPI_Comm base) {
     if (rank > 0) {
         MPI_Send(mine->bytes, (int)mine->length, MPI_CHAR, 0, LINES_TAG, base);
         return;
     }
-    fwrite(mine->bytes, 1, mine->length, stdout);
+    tell(mine->bytes, mine->length);
     for (int from = 1; from < ranks; from++) {
         MPI_Status status;
         int length;
@@ -587,7 +612,7 @@ static void print_lines(struct output *mine, int rank, int ranks, MPI_Comm base)
         MPI_Get_count(&status, MPI_CHAR, &length);
         char *bytes = must(malloc((size_t)length + 1));
         MPI_Recv(bytes, length, MPI_CHAR, from, LINES_TAG, base, MPI_STATUS_IGNORE);
-        fwrite(bytes, 1, (size_t)length, stdout);
+        tell(bytes, (size_t)length);
         free(bytes);
     }
     fflush(stdout);
@@ -618,7 +643,10 @@ static void play_file(const char *name, int rank, int size, bool alone) {
     if (text.ranks > size)
         stop(name, 0, "a text of %d ranks needs as many processes, and there are %d", text.ranks, size);
     reading = false;
-    if (rank == 0 && !alone) {
+    if (rank == 0 && compared.wanted) {
+        compared.texts = must(realloc(compared.texts, (size_t)(compared.count + 1) * sizeof *compared.texts));
+        compared.texts[compared.count++] = (struct played){.name = name, .lines = {must(calloc(1, 1)), 0, 1}};
+    } else if (rank == 0 && !alone) {
         printf("text %s\n", name);
         fflush(stdout);
     }
@@ -629,18 +657,88 @@ static void play_file(const char *name, int rank, int size, bool alone) {
     free_text(&text);
 }
 
+/* Comparing: after MPI_Finalize, since a process of some libraries may not fork before. */
+
+/* Starts `colljob plain NAME`, and gives its output; null where it can't be started. */
+static FILE *meant(const char *name, pid_t *child) {
+    const char *program = getenv("COLLJOB");
+    int ends[2];
+    if (pipe(ends))
+        return NULL;
+    *child = fork();
+    if (*child == 0) {
+        dup2(ends[1], 1);
+        close(ends[0]);
+        close(ends[1]);
+        execlp(program && *program ? program : "colljob", "colljob", "plain", name, (char *)NULL);
+        fprintf(stderr, "colljob-mpi: %s: %s: name colljob by the variable COLLJOB\n", program && *program ? program : "colljob", strerror(errno));
+        _exit(127);
+    }
+    close(ends[1]);
+    return *child > 0 ? fdopen(ends[0], "r") : NULL;
+}
+
+/* Whether a text's lines are those that it means. The first that differs is told. */
+static bool is_as_meant(struct played *text) {
+    pid_t child = -1;
+    FILE *means = meant(text->name, &child);
+    char *want = NULL, *got = text->lines.bytes;
+    size_t room = 0;
+    long number = 0;
+    bool same = means != NULL;
+    while (same && getline(&want, &room, means) >= 0) {
+        size_t length = strcspn(got, "\n"), wanted = strcspn(want, "\n");
+        number++;
+        same = length == wanted && !memcmp(got, want, length);
+        if (!same)
+            printf("%s: line %ld: this library gives `%.*s`, and colljob plain `%.*s`\n", text->name, number, (int)length, got, (int)wanted, want);
+        got += length + (got[length] == '\n');
+    }
+    if (same && *got) {
+        printf("%s: this library gives more lines than colljob plain\n", text->name);
+        same = false;
+    }
+    int status = 1;
+    if (means)
+        fclose(means);
+    bool ended = child > 0 && waitpid(child, &status, 0) == child && WIFEXITED(status) && WEXITSTATUS(status) == 0;
+    if (same && !ended)
+        printf("%s: not compared: colljob plain ended badly\n", text->name);
+    free(want);
+    return same && ended;
+}
+
+static int compare_texts(void) {
+    int differing = 0;
+    for (int place = 0; place < compared.count; place++) {
+        bool same = is_as_meant(&compared.texts[place]);
+        if (same)
+            printf("%s: the values are those of colljob plain\n", compared.texts[place].name);
+        differing += !same;
+        free(compared.texts[place].lines.bytes);
+    }
+    free(compared.texts);
+    return differing > 0;
+}
+
 int main(int count, char **names) {
-    int rank, size;
+    int rank, size, first = 1;
     MPI_Init(&count, &names);
     MPI_Comm_rank(MPI_COMM_WORLD, &rank);
     MPI_Comm_size(MPI_COMM_WORLD, &size);
     process = rank;
-    if (count < 2 && rank == 0)
-        fprintf(stderr, "usage: mpirun -n RANKS run_text TEXT ...\n");
+    if (count > 1 && !strcmp(names[1], "--compare"))
+        compared.wanted = first++;
+    bool has_texts = count > first && names[first][0] != '-';
+    if (!has_texts && rank == 0)
+        fprintf(stderr, "usage: mpirun -n RANKS colljob-mpi [--compare] TEXT ...\n"
+                        "Carries out job texts over the MPI library. --compare tells what differs from `colljob plain`, with status 1.\n");
     MPI_Op_create(take_last_nonzero, 0, &last_nonzero);
-    for (int place = 1; place < count; place++)
-        play_file(names[place], rank, size, count == 2);
+    for (int place = first; has_texts && place < count; place++)
+        play_file(names[place], rank, size, count == first + 1);
     MPI_Op_free(&last_nonzero);
     MPI_Finalize();
-    return count < 2 ? 2 : 0;
+    if (!has_texts)
+        return 2;
+    return rank == 0 && compared.wanted ? compare_texts() : 0;
 }
