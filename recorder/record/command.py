@@ -12,6 +12,7 @@ from launcher import HOME, WORDS, Impossible, Launch, recorder_for
 from output import colljob_of, write_file, write_out
 from page import page_of_files, page_of_report
 from records import Unreadable
+from running import page_of_command
 from report import CLEAN, FAULT, OPEN, Report
 from watch import Ended, Teller, Watch, end, start
 
@@ -42,7 +43,7 @@ def seconds(word):
 
 
 def parser_of_run():
-    parser = argparse.ArgumentParser("wzrecord", usage="wzrecord [OPTIONS] LAUNCHER ..\n       wzrecord report [OPTIONS] FOLDER\n       wzrecord text [--from P] FOLDER\n       wzrecord page [OPTIONS] OUT", allow_abbrev=False,
+    parser = argparse.ArgumentParser("wzrecord", usage="wzrecord [OPTIONS] LAUNCHER ..\n       wzrecord report [OPTIONS] FOLDER\n       wzrecord text [--from P] FOLDER\n       wzrecord page [OPTIONS] OUT [COMMAND ..]", allow_abbrev=False,
                                      description="Records an MPI program with its own library, Open MPI or MPICH, and reports what is wrong with it.",
                                      epilog=STATUSES, formatter_class=argparse.RawDescriptionHelpFormatter)
     parser.add_argument("-V", "--version", action="version", version=f"wzrecord {version()}")
@@ -127,17 +128,23 @@ def parser_of_page():
     parser.add_argument("--words", metavar="FILE", help="what the program wrote to standard error")
     parser.add_argument("--explain", metavar="FILE", help="what `colljob explain --format json` wrote")
     parser.add_argument("--status", type=int, help="the program's status")
-    parser.add_argument("--title", default="A run", help="the page's first line")
+    parser.add_argument("--title", help="the page's first line")
     parser.add_argument("out", metavar="OUT", help="the page")
+    parser.add_argument("command", nargs=argparse.REMAINDER, metavar="COMMAND", help="in place of files: `wzrun ..`, `colljob run ..` or `colljob explain ..`, which is run as it is; the status is its own")
     return parser
 
 
 def make_page(arguments):
     parser = parser_of_page()
     words = parser.parse_args(arguments)
+    command = words.command[1:] if words.command[:1] == ["--"] else words.command
+    if command:
+        status, text = page_of_command(command, words.title)
+        write_file(words.out, text)
+        return status
     if not (words.timeline or words.stats or words.words or words.explain):
-        parser.error("there is no file of which a page is made")
-    write_file(words.out, page_of_files(words.title, words.timeline, words.stats, words.words, words.explain, words.status))
+        parser.error("there is neither a file nor a command of which a page is made")
+    write_file(words.out, page_of_files(words.title or "A run", words.timeline, words.stats, words.words, words.explain, words.status))
     return CLEAN
 
 

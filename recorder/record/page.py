@@ -183,9 +183,17 @@ def add_said(data, said, status):
     data["verdict"] = next((it["words"] for it in data["findings"] if it["tone"] == "bad"), data["findings"][0]["words"])
     cycle = re.search(r"wait for one another: ([\d >-]+)", said)
     ranks = [int(it) for it in cycle[1].split("->")] if cycle else []
-    where = dict(re.findall(r"rank (\d+) waits in (.*)", said))
+    where = {rank: words for those, words in re.findall(r"ranks? ([\d, to and-]+) waits? in (.*)", said) for rank in numbers_of(those)}
     data["waiting"] = [{"rank": rank, "words": shorter(where.get(str(rank), "")), "over": False} for rank in dict.fromkeys(ranks)]
     data["waits"] = list(zip(ranks, ranks[1:]))
+
+
+def numbers_of(words):
+    """The ranks of `0, 2 and 4 to 6`, each as a word."""
+    found = []
+    for it in re.finditer(r"(\d+)(?:(?: to |-)(\d+))?", words):
+        found += [str(rank) for rank in range(int(it[1]), int(it[2] or it[1]) + 1)]
+    return found
 
 
 def shorter(words):

@@ -172,7 +172,7 @@ PROGRAMS.update({
     "right_bridge": right(4, "not judged: 28 calls on communicators", "no fault found in what is there", status=3),
     "right_pairs": right(4),
     "right_session": right(2, "no fault", status=None),
-    "right_own_request": right(2, MESSAGES),
+    "right_own_request": right(2),
     "right_pair_parts": right(3),
     "right_parts": right(2, "no fault: the collective calls agree"),
     "right_threads_apart": right(2, "not judged: 3 communicators, windows or files that were made of one on which several threads of a rank call", "no fault found in what is there; stalls aren't judged: several threads", status=3),
