@@ -22,7 +22,7 @@ def page_of_command(command, title=None):
         else:
             raise Impossible(f"{' '.join(command[:2])}: a page is made of `wzrun ..`, `colljob run ..` and `colljob explain ..`")
         files = {key: path if path and os.path.exists(path) else None for key, path in files.items()}
-        return status, page_of_files(title or " ".join(command), status=status, **files)
+        return status, page_of_files(title or " ".join([name, *command[1:]]), status=status, **files)
 
 
 def started(command, **how):
