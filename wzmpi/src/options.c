@@ -25,6 +25,7 @@ static const char help[] =
     "  --values FILE    writes what requests got, as the lines of `colljob plain`\n"
     "  --timeline FILE  writes when each collective and message was under way, and each wait, as trace events that Perfetto opens\n"
     "  --trace FILE     writes each call that an engine accepted, in the order in which the engines took them\n"
+    "  --html FILE      writes a page of the run for any browser, by wzrecord, which lies beside wzrun or in PATH\n"
     "  --stats          says what ranks and collectives gave, got and waited, how many collectives the engine carried out as they are, and how many it carried\n"
     "Else:\n"
     "  --status-of-faults N  the status where wzrun reports a fault, 1 to 255, so that it can't be the program's\n"
@@ -109,6 +110,7 @@ static bool read_value(const char *word, const char *value, struct options *opti
     else if (is_word(word, "--values")) the_run.values = value;
     else if (is_word(word, "--timeline")) the_run.timeline = value;
     else if (is_word(word, "--trace")) the_run.trace = value;
+    else if (is_word(word, "--html")) options->page = value;
     else return false;
     return true;
 }
@@ -172,6 +174,24 @@ static void refuse_mpirun(const char *program) {
     }
 }
 
+/* wzrecord runs the same words once more, and makes the page of what they write. Where the variable WZ_PAGE is set, it does so already. */
+static void make_page(int argc, char **argv, const char *page) {
+    char beside[4096] = "", *name = beside;
+    ssize_t length = readlink("/proc/self/exe", beside, sizeof beside - sizeof "wzrecord");
+    char *own = length > 0 ? must(strdup(beside)) : argv[0];
+    char *slash = strrchr(beside, '/');
+    strcpy(slash != NULL ? slash + 1 : beside, "wzrecord");
+    if (access(beside, X_OK) != 0) name = strrchr(beside, '/') != NULL ? strrchr(beside, '/') + 1 : beside;
+    char **words = must(calloc((size_t)argc + 5, sizeof *words));
+    char *first[] = { name, "page", (char *)page, "--" };
+    for (int i = 0; i < 4; i++) words[i] = first[i];
+    for (int i = 0; i < argc; i++) words[4 + i] = argv[i];
+    words[4] = own;
+    setenv("WZ_PAGE", page, 1);
+    execvp(name, words);
+    give_up("--html", "there is no wzrecord beside wzrun or in PATH, which makes the page");
+}
+
 void read_options(int argc, char **argv, struct options *options) {
     int at = 1;
     *options = (struct options){ .ranks = 0 };
@@ -179,6 +199,7 @@ void read_options(int argc, char **argv, struct options *options) {
     while (at < argc && argv[at][0] == '-' && !is_word(argv[at], "--")) at += read_option(argv + at, argc - at, options);
     if (at < argc && is_word(argv[at], "--")) at++;
     if (at == argc) give_up("no program", "it stands after the options");
+    if (options->page != NULL && variable("WZ_PAGE") == NULL) make_page(argc, argv, options->page);
     if (options->ranks == 0) refuse_mpirun(argv[at]);
     if (options->ranks == 0) options->ranks = 1;
     options->program = at;

@@ -8,6 +8,7 @@ struct options {
     int ranks;
     uint64_t first_seed, last_seed; /* of --seeds; 0: none */
     int program;                    /* where in argv the program stands */
+    const char *page;               /* of --html; NULL: none */
 };
 
 /* Reads them into *options and the_run. Ends with status 1, or 0 after --help. */
