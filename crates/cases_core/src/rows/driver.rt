@@ -176,12 +176,7 @@ impl CoreDriver {
         self.post_offered(rank, 0, offered)
     }
 
-    fn post_offered(
-        &mut self,
-        rank: u8,
-        comm: u32,
-        offered: Result<Offer, Refusal>,
-    ) -> CoreAnswer {
+    fn post_offered(&mut self, rank: u8, comm: u32, offered: Result<Offer, Refusal>) -> CoreAnswer {
         match offered {
             Ok(offer) => {
                 let made = calls::post(&mut self.core, rank, comm, offer);

@@ -54,7 +54,12 @@ const STALE: CoreAnswer = CoreAnswer::Refused(Refusal::Stale);
 
 // Another engine has handed out a combination of the same ticket, with another operation or another operand. What it computed
 // is refused, and the engine's own work is still accepted.
-fn foreign(sum: Signature, max: Signature, operands: [UpToThree; 2], value: UpToThree) -> [CoreRow; 16] {
+fn foreign(
+    sum: Signature,
+    max: Signature,
+    operands: [UpToThree; 2],
+    value: UpToThree,
+) -> [CoreRow; 16] {
     let [left, right] = operands;
     [
         (CoreCall::PostEqual(0, sum, 1), CoreAnswer::Accepted),
