@@ -15,11 +15,22 @@ pub enum Stage {
     Computed(DoneWork),
 }
 
-/// A combination that an engine handed out, so that it is computed outside the engine, and outside its lock. It can't be dropped:
-/// `take_back` takes it, and `discard`. Contracts see its stage; one that has none is of no use.
+/// A combination that an engine handed out, so that it is computed outside the engine, and outside its lock. `take_back` takes
+/// it. C holds it behind a pointer, and may drop it, where its engine is gone. Contracts see its stage; one that has none is of no use.
 #[derive(Debug)]
 pub struct Combination {
     stage: Option<Stage>,
+}
+
+impl Drop for Combination {
+    fn drop(self) {
+        let Combination { stage } = self;
+        match stage {
+            None => {}
+            Some(Stage::Due(work)) => work.discard(),
+            Some(Stage::Computed(done)) => done.discard(),
+        }
+    }
 }
 
 impl Model for Combination {
@@ -63,15 +74,6 @@ impl Combination {
         match mem::replace(&mut self.stage, stage) {
             None => answer,
             Some(_taken) => unreachable!(),
-        }
-    }
-
-    /// Lets it go though no engine takes it back: for one whose engine is gone.
-    pub fn discard(self) {
-        match self.into_stage() {
-            None => {}
-            Some(Stage::Due(work)) => work.discard(),
-            Some(Stage::Computed(done)) => done.discard(),
         }
     }
 

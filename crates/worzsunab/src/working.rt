@@ -116,7 +116,7 @@ pub extern "C" fn wz_drop_work(alloc: Global, work: &mut WorkHandle) -> i32
 {
     match work.take(alloc) {
         Some(combination) => {
-            Box::into_inner(combination).discard();
+            drop(combination);
             DONE
         }
         None => NO_WORK,
