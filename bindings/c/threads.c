@@ -222,6 +222,60 @@ static void crossed_barriers(void) {
     DONE(wz_shared_close(&crossed));
 }
 
+/* Calls are numbered in the order in which the engine takes them: a rank's numbers rise, and no two calls have one. */
+static uint64_t counter;
+
+static void numbered(uint8_t me) {
+    static uint64_t numbers[64][16];
+    uint64_t *mine = numbers[me];
+    for (int i = 0; i < 8; i++) {
+        int32_t one = 1, sum = 0;
+        size_t count = 0;
+        wz_request request;
+        DONE(wz_shared_post(&shared, me, 0, &allreduce, &one, sizeof one, &request));
+        mine[2 * i] = wz_shared_call_number(&shared, me);
+        wz_request refused;
+        HOLDS(wz_shared_post(&shared, me, 9, &allreduce, &one, sizeof one, &refused) == WZ_BAD_COMM);
+        HOLDS(wz_shared_call_number(&shared, me) == mine[2 * i]); /* a refused one has none */
+        DONE(wz_shared_wait(&shared, me, &request, &sum, sizeof sum, &count));
+        mine[2 * i + 1] = wz_shared_call_number(&shared, me);
+    }
+    for (int i = 1; i < 16; i++) HOLDS(mine[i] > mine[i - 1]);
+    pthread_barrier_wait(&together);
+    for (int r = 0; me == 0 && r < ranks; r++)
+        for (int i = 0; i < 16; i++)
+            for (int q = 0; q < r; q++)
+                for (int j = 0; j < 16; j++) HOLDS(numbers[r][i] != numbers[q][j] && numbers[r][i] < counter);
+    pthread_barrier_wait(&together);
+}
+
+/* A thread that plays no rank sees how far a request is, and whether anything can be done without a call of a rank. */
+static void watched(void) {
+    static wz_shared pair;
+    wz_call barrier = { WZ_BARRIER, WZ_NO_OPERATION, WZ_BYTE, 0, 0 };
+    wz_request requests[2], gone;
+    uint8_t phase = 9;
+    bool rests = false;
+    size_t count = 0;
+    HOLDS(wz_shared_watch(&pair, 0, NULL, &phase, &rests) == WZ_CLOSED);
+    HOLDS(wz_shared_post(&pair, 0, 0, &barrier, NULL, 0, &requests[0]) == WZ_CLOSED && wz_shared_close(&pair) == WZ_CLOSED);
+    DONE(wz_shared_open_world(&pair, 2));
+    DONE(wz_shared_post(&pair, 0, 0, &barrier, NULL, 0, &requests[0]));
+    gone = requests[0];
+    DONE(wz_shared_watch(&pair, 0, &requests[0], &phase, &rests));
+    HOLDS(phase == WZ_IS_PENDING && rests);
+    HOLDS(wz_shared_watch(&pair, 1, &requests[0], &phase, &rests) == WZ_NOT_YOURS);
+    DONE(wz_shared_post(&pair, 1, 0, &barrier, NULL, 0, &requests[1]));
+    DONE(wz_shared_wait(&pair, 0, &requests[0], NULL, 0, &count));
+    DONE(wz_shared_watch(&pair, 1, &requests[1], &phase, &rests));
+    HOLDS(phase == WZ_IS_DONE && rests);
+    HOLDS(wz_shared_watch(&pair, 0, &gone, &phase, &rests) == WZ_STALE);
+    rests = false;
+    DONE(wz_shared_watch(&pair, 0, NULL, NULL, &rests));
+    HOLDS(rests);
+    DONE(wz_shared_close(&pair));
+}
+
 static void *rank(void *number) {
     uint8_t me = (uint8_t)(size_t)number;
     once(me);
@@ -232,6 +286,7 @@ static void *rank(void *number) {
     lists(me);
     counted(me);
     long_rows(me);
+    numbered(me);
     stall(me);
     return NULL;
 }
@@ -250,6 +305,7 @@ int main(int argc, char **argv) {
     sizes[0] = sizes[1] = (uint8_t)ranks;
     wz_limits limits = wz_greatest_limits((uint32_t)ranks);
     DONE(wz_shared_open(&shared, &limits, sizes, 2, members, 2 * (size_t)ranks));
+    wz_shared_number_calls(&shared, &counter);
     pthread_barrier_init(&together, NULL, (unsigned)ranks);
     for (size_t i = 0; i < (size_t)ranks; i++) pthread_create(&threads[i], NULL, rank, (void *)i);
     for (int i = 0; i < ranks; i++) pthread_join(threads[i], NULL);
@@ -259,6 +315,7 @@ int main(int argc, char **argv) {
     HOLDS(lent == 0); /* of the stall's barriers, which have no bytes */
     DONE(wz_shared_close(&shared));
     crossed_barriers();
+    watched();
     puts("threads: all as it should be");
     return 0;
 }
