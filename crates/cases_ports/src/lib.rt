@@ -1,4 +1,4 @@
-//! Tests of ports: worked rows of an engine in one thread, from its opening to its report. All of it is built only for tests.
+//! Tests of ports: test vectors of an engine in one thread, from its opening to its report. All of it is built only for tests.
 //! The folder `tests/ports` has the tests that no proof reads: traces, reports, entries, refused memory.
 //!
 //! | Module | Has |

@@ -28,12 +28,12 @@ pub fn attested_tells()
     ensures { AttestedTells }
 {}
 
-/// The traces of the worked rows are such traces, so what the laws ask for can be met.
+/// The traces of the test vectors are such traces, so what the laws ask for can be met.
 pub fn rows_are_told()
     ensures { RowsAreTold }
 {}
 
-/// The traces of the worked rows are those of closed engines whose ranks did what scripts say, so what the law and
+/// The traces of the test vectors are those of closed engines whose ranks did what scripts say, so what the law and
 /// [`crate::Report::new`] ask for can be met.
 pub fn rows_are_closed()
     ensures { RowsAreClosed }

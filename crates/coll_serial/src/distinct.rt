@@ -1,4 +1,4 @@
-//! Whether a list names no request twice.
+//! Whether a list names a request twice.
 
 ghost use Rattle.std.specs.Prelude.{◌≡◌, ◌↔◌, ℕ, IsTrue, Some, slice_get};
 ghost use Rattle.coll_complete.specs.Requests.{AreDistinct};
@@ -7,14 +7,14 @@ ghost use Rattle.coll_serial.specs.Parts.{ticket_of, tickets_of};
 use crate::part::Part;
 use coll_kinds::Ticket;
 
-/// Whether a part names what a ticket does.
+/// Tells whether a part names the ticket's request.
 fn names(part: &Part, ticket: Ticket) -> bool
     ensures { IsTrue result ↔ (ticket_of part.now ≡ Some ticket) }
 {
     part.request().ticket() == Some(ticket)
 }
 
-/// Whether a ticket stands in a list.
+/// Tells whether a ticket stands in a list.
 fn stands_in(ticket: Ticket, parts: &[Part]) -> bool
     ensures { IsTrue result ↔ ((k : ℕ) × (slice_get (tickets_of parts.now) k ≡ Some (Some ticket))) }
 {
@@ -26,7 +26,8 @@ fn stands_in(ticket: Ticket, parts: &[Part]) -> bool
     false
 }
 
-/// Whether no request stands at two positions of a list, as the tests of lists ask. It takes time for each two positions.
+/// Tells whether no request stands at two positions of a list, which is a precondition of tests of
+/// lists. Quadratic in the list.
 pub fn are_distinct(parts: &[Part]) -> bool
     ensures { IsTrue result ↔ AreDistinct (tickets_of parts.now) }
 {

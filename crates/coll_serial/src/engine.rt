@@ -1,4 +1,4 @@
-//! The engine, its opening, and the questions on it.
+//! The engine, its opening, and queries on it.
 
 mod combining;
 mod listing;
@@ -31,7 +31,7 @@ use std::marker::Model;
 pub struct Engine {
     alloc: Global,
     communicators: Communicators,
-    /// By slot, the bytes of the outcome of the slot's request.
+    /// By slot, the length of the outcome of the slot's request, in bytes.
     outcome_lengths: Vec<u32>,
     core: Core,
 }
@@ -48,7 +48,8 @@ impl Model for Engine {
 }
 
 impl Engine {
-    /// An engine without requests. Takes time and memory for each slot, communicator and member.
+    /// Opens an engine without requests. Takes time and memory linear in slots, communicators and
+    /// members.
     ///
     /// # Errors
     ///
@@ -70,11 +71,11 @@ impl Engine {
         })
     }
 
-    /// How far a request is. It takes constant time.
+    /// Returns the phase of a request. Takes constant time.
     ///
     /// # Errors
     ///
-    /// Stale where the request names none that is live, then NotYours where it is another rank's.
+    /// Stale if the request isn't live, then NotYours if it is another rank's.
     pub fn phase(&self, rank: u8, request: &Request) -> Result<Phase, Refusal>
         ensures refused { result_err result ≡ naming_refusal (setting self.now) (seen self.now).state rank request.now }
         ensures phase { IfOk result (λ phase. phase_at (seen self.now) request.now ≡ Some phase) }
@@ -85,11 +86,11 @@ impl Engine {
         }
     }
 
-    /// The bytes of the outcome that a request will have, or has. It takes constant time.
+    /// Returns the length of a request's outcome, in bytes. Takes constant time.
     ///
     /// # Errors
     ///
-    /// Stale where the request names none that is live, then NotYours where it is another rank's.
+    /// Stale if the request isn't live, then NotYours if it is another rank's.
     pub fn outcome_len(&self, rank: u8, request: &Request) -> Result<usize, Refusal>
         ensures refused { result_err result ≡ naming_refusal (setting self.now) (seen self.now).state rank request.now }
         ensures len { IfOk result (IsOutcomeLengthAt (setting self.now) (seen self.now).state request.now) }
@@ -103,21 +104,22 @@ impl Engine {
         }
     }
 
-    /// What a request is; none where it names none that is live.
+    /// Returns what a request is; None if it isn't live.
     pub fn about(&self, request: &Request) -> Option<About>
         ensures { result ≡ about_at (seen self.now) request.now }
     {
         self.core.about(request.ticket()?)
     }
 
-    /// The bytes that active requests lend to the engine, given and got together.
+    /// Returns the number of bytes lent to the engine (in flight): what active requests give and
+    /// will get.
     pub fn lent(&self) -> u64
         ensures { result ≡ lent_bytes (setting self.now) (seen self.now).state }
     {
         self.core.lent()
     }
 
-    /// Whether no request is ready, so that no step changes anything.
+    /// Tells whether no request is ready, so that no step changes anything.
     pub fn is_quiet(&self) -> bool
         ensures { IsTrue result ↔ IsQuiet self.now }
     {

@@ -1,14 +1,14 @@
-//! One engine for all ranks of a process, without a lock: it makes the plans of what is posted, and completes into the caller's
-//! memory. Whoever shares it between threads puts a lock round it.
+//! One engine for all ranks of a process, for one caller at a time: it makes the plans of what is
+//! posted, and completes into the caller's memory. Threads that share it put a lock round it.
 //!
 //! | Module | Has |
 //! |---|---|
-//! | `combination` | `Combination`, one that is computed outside the engine |
-//! | `test` | `Test`, the result of a test of one request |
-//! | `part` | `Part`, a request of a list with its span of the list's memory |
-//! | `distinct` | `are_distinct`, what the tests of lists ask of a list |
-//! | `first` | `First`, the result of a test of a list for one request |
-//! | `stopped` | `Stopped`, where the starts of a list stopped |
+//! | `combination` | `Combination`: a combination that is computed outside the engine |
+//! | `test` | `Test`: the result of a test of one request |
+//! | `part` | `Part`: a request of a list with its span of the list's memory |
+//! | `distinct` | `are_distinct`: the precondition of tests of lists |
+//! | `first` | `First`: the result of a test of a list for one request |
+//! | `stopped` | `Stopped`: where the starts of a list stopped |
 //! | `threads` | which values may go from one thread to another |
 //! | `engine` | `Engine`, with its calls by what they do |
 //!

@@ -8,13 +8,15 @@ use coll_traced::{Entries, Spent};
 use std::sync::Wait;
 use std::sync::ledger::Share;
 
-/// Closes an engine, whose ports have ended: the report of all that it accepted. Idle requests may remain. `spents` are the ends of the
-/// ports, in the order of their ranks. All of it is done under one hold of the lock: what was tested is what is taken.
+/// Closes an engine whose ports have ended, and returns the report of all calls that it accepted.
+/// Idle requests may remain. `spents` are the ends of the ports, in the order of ranks. The close
+/// holds the lock once for all of this, so the state that it checks is the state that it takes.
 ///
 /// # Errors
 ///
-/// StillActive with the lowest rank that has an active request; else Torn, unless `spents` are the ends of all ports of this engine, in
-/// the order of their ranks. The engine and the ends are handed back.
+/// StillActive with the lowest rank that has an active request. Else Torn, unless `spents` are the
+/// ends of all ports of this engine, in the order of ranks. The engine and the ends are handed
+/// back.
 pub fn close<L: Entries, R: Wait>(
     rt: &R,
     engine: Engine<L>,
@@ -50,7 +52,7 @@ pub fn close<L: Entries, R: Wait>(
     Ok(report)
 }
 
-/// The shares of all ports as one.
+/// Joins the shares of all ports into one.
 fn merged<L: Entries>(mut spents: Vec<Spent<L>>) -> Share<L>
     requires { 0 < vec_len spents }
     ensures parts { result.parts ≡ vec_len spents }

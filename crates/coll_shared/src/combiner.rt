@@ -1,4 +1,4 @@
-//! The engine's lock, and what the thread that has it does for all.
+//! The engine's lock, and what its holder (the combiner) does for all ports: flat combining.
 
 mod held;
 
@@ -17,22 +17,23 @@ use std::alloc::Global;
 use std::sync::atomic::{AtomicU64, Ordering};
 use std::sync::{Mutex, Wait};
 
-/// How often who gives the lock up takes it again for what was published meanwhile.
+/// How often a thread that unlocks takes the lock again for what was published meanwhile.
 const ROUNDS: u32 = 4;
 
-/// The lock round an engine, and its ports' publication records. The thread that has the lock is the combiner: it serves the records of
-/// all ports.
+/// The lock round an engine, and its ports' publication records. The thread that holds the lock is
+/// the combiner: it serves the records of all ports.
 #[derive(Drop)]
 pub(crate) struct Combiner<L: Entries> {
     locked: Mutex<Locked<L>>,
     records: Vec<PublicationRecord<L>>,
-    /// How many threads ask for the lock itself.
+    /// How many threads wait for the lock itself.
     wanted: CachePadded<AtomicU64>,
-    /// Where progress threads sleep.
+    /// Where idle progress threads sleep.
     pub(crate) idlers: EventCount,
     /// How many threads sleep.
     sleepers: CachePadded<AtomicU64>,
-    /// The ranks whose ports were dropped unfinished, as bits, until a combiner notes that they have ended.
+    /// The ranks whose ports were dropped unfinished, as bits, until a combiner notes that they
+    /// have ended.
     departed: CachePadded<AtomicU64>,
     pub(crate) processors: CachePadded<Processors>,
 }
@@ -42,7 +43,7 @@ fn zero() -> CachePadded<AtomicU64> {
 }
 
 impl<L: Entries> Combiner<L> {
-    /// Round an engine with that many ranks.
+    /// Makes the lock and the records for an engine with `ranks` ranks.
     pub(crate) fn open(alloc: Global, traced: TracedCore<L>, ranks: u8) -> Result<Self, Refusal>
         ensures { IfErr result (λ why. why ≡ Refusal.NoMemory) }
     {
@@ -61,17 +62,17 @@ impl<L: Entries> Combiner<L> {
         })
     }
 
-    /// The record of a rank.
+    /// Returns the record of a rank.
     pub(crate) fn record(&self, rank: u8) -> Option<&PublicationRecord<L>> {
         self.records.get(usize::from(rank))
     }
 
-    /// Takes the lock, unless a thread has it. Neither this nor `release` waits.
+    /// Takes the lock if it is free. Neither this function nor `release` blocks.
     pub(crate) fn try_enter(&self) -> Option<Held<'_, L>> {
         Some(Held::new(self.locked.try_lock()?))
     }
 
-    /// Takes the lock for a call of the rank's port that leads, unless a thread has it.
+    /// Takes the lock for a call of the rank's port, if that port leads and the lock is free.
     pub(crate) fn try_lead(&self, rank: u8) -> Option<Held<'_, L>> {
         if !self.record(rank)?.leads() {
             return None;
@@ -79,14 +80,14 @@ impl<L: Entries> Combiner<L> {
         self.try_enter()
     }
 
-    /// The port of the rank has served its call itself.
+    /// Notes that the rank's port served its last call itself.
     pub(crate) fn has_led(&self, rank: u8) {
         if let Some(record) = self.record(rank) {
             record.set_leads(true);
         }
     }
 
-    /// Takes the lock.
+    /// Takes the lock, and blocks until it is free.
     #[inline(always)]
     pub(crate) fn enter<R: Wait>(&self, rt: &R) -> Held<'_, L> {
         if let Some(held) = self.try_enter() {
@@ -109,12 +110,12 @@ impl<L: Entries> Combiner<L> {
         Held::new(self.locked.lock(rt))
     }
 
-    /// Whether a thread asks for the lock.
+    /// Tells whether a thread waits for the lock.
     pub(crate) fn is_wanted(&self) -> bool {
         self.wanted.load(Ordering::SeqCst) != 0
     }
 
-    /// How many ports published something that nobody has served yet.
+    /// Counts the ports whose published call nobody has served yet.
     pub(crate) fn published(&self) -> u64 {
         self.records
             .iter()
@@ -122,27 +123,27 @@ impl<L: Entries> Combiner<L> {
             .count() as u64
     }
 
-    /// How many threads sleep.
+    /// Returns how many threads sleep.
     pub(crate) fn sleepers(&self) -> u64 {
         self.sleepers.load(Ordering::SeqCst)
     }
 
-    /// The calling thread is about to sleep.
+    /// Notes that the calling thread is about to sleep.
     pub(crate) fn falls_asleep(&self) {
         self.sleepers.fetch_add(1, Ordering::SeqCst);
     }
 
-    /// The calling thread sleeps no longer.
+    /// Notes that the calling thread is awake.
     pub(crate) fn wakes_up(&self) {
         self.sleepers.fetch_sub(1, Ordering::SeqCst);
     }
 
-    /// Ends a rank whose port is dropped unfinished, without waiting for the lock.
+    /// Ends a rank whose port is dropped unfinished, without blocking on the lock.
     ///
-    /// Nobody misses it: where the lock is free, this thread takes it and notes the departure itself. Else the departure was
-    /// published before another thread gave the lock up, and `release` looks for departures after each unlock, so that thread or the
-    /// one that has taken the lock since notes it. The hold that notes it reports a stall, and so wakes the ports that slept for this
-    /// rank.
+    /// No departure is missed. If the lock is free, this thread takes it and notes the departure.
+    /// Else the departure was published before the lock's holder unlocks, and `release` checks for
+    /// departures after each unlock. So that thread notes it, or a later holder does. Whoever notes
+    /// it reports a deadlock, if there is one, and so wakes the ports that slept for this rank.
     pub(crate) fn depart(&self, rank: u8) {
         self.departed
             .fetch_or(Ranks::NONE.with(rank).bits(), Ordering::SeqCst);
@@ -168,7 +169,7 @@ impl<L: Entries> Combiner<L> {
         }
     }
 
-    /// Does what ports published.
+    /// Carries out what ports published.
     #[inline(always)]
     fn serve(&self, held: &mut Held<'_, L>) {
         for (rank, record) in (0..=u8::MAX).zip(self.records.iter()) {
@@ -190,7 +191,7 @@ impl<L: Entries> Combiner<L> {
         }
     }
 
-    /// Answers the registered ports that wait for what is finished now.
+    /// Answers the registered ports whose requests are done now.
     #[inline(always)]
     pub(crate) fn answer_met(&self, held: &mut Held<'_, L>) {
         if held.locked.finished {
@@ -200,7 +201,8 @@ impl<L: Entries> Combiner<L> {
         }
     }
 
-    /// Calls the ports that are parked, where nothing can go on: each port that waits takes the lock then, and finds that it is stalled.
+    /// In a deadlock, summons the parked ports: each waiting port then takes the lock, and finds
+    /// that it is marked as stalled.
     fn tell_stall(&self, held: &mut Held<'_, L>) {
         if !held.locked.tell_stall() {
             return;
@@ -213,7 +215,7 @@ impl<L: Entries> Combiner<L> {
         }
     }
 
-    /// Calls a parked port to take the lock. It waits as before.
+    /// Summons a parked port: it is to take the lock, and goes on waiting.
     fn call(&self, held: &mut Held<'_, L>, rank: u8) {
         if let Some(record) = self.record(rank) {
             record.call();
@@ -221,7 +223,8 @@ impl<L: Entries> Combiner<L> {
         }
     }
 
-    /// What the combiner does for all: what was published, the steps that need no combination, and answers.
+    /// Works for all ports: carries out what they published, makes the steps that need no
+    /// combination, and answers.
     #[inline(always)]
     pub(crate) fn combine(&self, held: &mut Held<'_, L>) {
         self.end_departed(held);
@@ -230,8 +233,9 @@ impl<L: Entries> Combiner<L> {
         self.answer_met(held);
     }
 
-    /// Computes a combination of a few bytes with the lock free, and takes the lock again. Those who are to be woken are; nothing else is done
-    /// for others before that: this thread waits for nothing but the lock, and does it when it gives the lock up for good.
+    /// Computes a short combination with the lock free, and takes the lock again. Before that it
+    /// only wakes the threads that are to be woken. Everything else waits until this thread gives
+    /// the lock up for good, because this thread blocks on nothing but the lock.
     pub(crate) fn compute_between<'a, R: Wait>(
         &'a self,
         rt: &R,
@@ -244,8 +248,9 @@ impl<L: Entries> Combiner<L> {
         (self.enter(rt), done)
     }
 
-    /// The only way to give the lock up for good. It takes the lock again, without waiting, for what was published meanwhile, a few times;
-    /// for ports that were dropped, of which there are few, each time.
+    /// Gives the lock up for good; no other function does. Takes the lock again, without blocking,
+    /// for what was published meanwhile: a few times for calls, and each time for dropped ports,
+    /// which are rare.
     pub(crate) fn release<'a>(&'a self, mut held: Held<'a, L>) {
         for round in 1..u32::MAX {
             self.let_go(held);
@@ -261,7 +266,8 @@ impl<L: Entries> Combiner<L> {
         self.let_go(held);
     }
 
-    /// Does what is to be done for all, unlocks, and wakes the ports that were answered and the thread that goes on.
+    /// Does what is due for all ports, unlocks, and wakes the ports that were answered and the
+    /// successor.
     #[inline(always)]
     fn let_go(&self, mut held: Held<'_, L>) {
         self.combine(&mut held);

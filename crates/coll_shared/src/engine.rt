@@ -19,9 +19,10 @@ use std::alloc::Global;
 use std::sync::ledger::{Blank, Share};
 use std::sync::{Arc, Wait};
 
-/// What an engine is opened with that is to have much room: 4,096 live requests at one time; of each member 65,536 posts and
-/// initialisations on each communicator; of each slot as many requests as it can have, one after the other; 1,048,576 starts of each
-/// request; and a trace of 1,048,576 entries. These sizes are in range.
+/// Returns a configuration with much room, all in range: 4,096 live requests at one time; for each
+/// member 65,536 posts and initialisations on each communicator; 1,048,576 starts of each request;
+/// a trace of 1,048,576 entries; and as many requests in each slot as it can have, one after the
+/// other.
 pub fn roomy(ranks: u8, groups: Vec<Vec<u8>>) -> Config
     ensures ranks { result.ranks ≡ ranks }
     ensures groups { result.groups ≡ groups }
@@ -39,7 +40,7 @@ pub fn roomy(ranks: u8, groups: Vec<Vec<u8>>) -> Config
     }
 }
 
-/// An engine that ranks share, each by its port.
+/// An engine that ranks share, each through its port.
 #[derive(Drop)]
 pub struct Engine<L: Entries> {
     pub(crate) combiner: Arc<Combiner<L>>,
@@ -49,12 +50,14 @@ pub struct Engine<L: Entries> {
 }
 
 impl<L: Entries> Engine<L> {
-    /// A progress thread: it makes steps, computes combinations with the lock free, and sleeps where no request is ready, until `stop`.
-    /// Returns how many combinations it computed; at the greatest number it stays there.
+    /// Runs the calling thread as a progress thread until `stop`. It makes steps, computes
+    /// combinations with the lock free, and sleeps while no request is ready. Returns how many
+    /// combinations it computed; the count saturates.
     ///
     /// # Errors
     ///
-    /// NoMemory of a step or of a combination, which is given back; Stale where a result isn't wanted any longer.
+    /// NoMemory for a step or for a combination, which is given back. Stale if the result of a
+    /// combination isn't wanted any longer.
     pub fn work<R: Wait, G: Gate>(&self, rt: &R, gate: &G) -> Result<u64, Refusal>
         ensures refused { IfErr result IsSetback }
     {
@@ -69,17 +72,19 @@ impl<L: Entries> Engine<L> {
         self.combiner.idlers.notify_all();
     }
 
-    /// How many threads sleep in the engine: waiting ports and progress threads. It is read without the lock.
+    /// Returns how many threads sleep in the engine: waiting ports and progress threads. Reads
+    /// without the lock.
     pub fn sleepers(&self) -> u64 {
         self.combiner.sleepers()
     }
 
-    /// How many ports have published a post, a start or a wait that no thread has served yet. It is read without the lock.
+    /// Returns how many ports have published a post, a start or a wait that no thread has served
+    /// yet. Reads without the lock.
     pub fn published(&self) -> u64 {
         self.combiner.published()
     }
 
-    /// Looks at what lies under the lock, for tests and tools.
+    /// Shows the state under the lock to `inspector`, for tests and tools.
     pub fn inspect<R: Wait, I: Inspect<L>>(&self, rt: &R, inspector: &mut I) {
         let held = self.combiner.enter(rt);
         inspector.inspect(&held.locked.traced);
@@ -87,8 +92,9 @@ impl<L: Entries> Engine<L> {
     }
 }
 
-/// Opens an engine, with a port for each rank, in their order. `entries` names the ledger of the trace's entries, in a part for each
-/// rank. All memory to note what ports wait for is taken here: eight bytes for each slot at each rank.
+/// Opens an engine with a port for each rank, in the order of ranks. `entries` names the ledger of
+/// the trace's entries, with a part for each rank. Takes all memory for notes on what ports wait
+/// for: eight bytes for each slot at each rank.
 ///
 /// # Errors
 ///
@@ -121,7 +127,7 @@ pub fn open<L: Entries>(
     ))
 }
 
-/// A port for each rank.
+/// Makes a port for each rank.
 fn ports_of<L: Entries>(
     alloc: Global,
     combiner: &Arc<Combiner<L>>,

@@ -1,14 +1,16 @@
-/// What stands before and after each combination that is computed outside the lock, and may hold a thread up before it.
+/// What is called before and after each combination that is computed outside the lock. It may hold
+/// a thread up before one.
 pub trait Gate {
-    /// Called before a piece is computed, with the lock free. Pieces are numbered from 0 in the order in which they were
-    /// handed out.
+    /// Called before a combination is computed, with the lock free. Combinations are numbered from
+    /// 0 in the order in which they were handed out.
     fn before(&self, piece: u64);
 
-    /// Called after its result was written, with the lock free. It mustn't wait for what other threads do with the engine: a waiting port
-    /// that is here counts as one that goes on with what is ready, so no other is called for that.
+    /// Called after its result was written, with the lock free. It mustn't wait for what other
+    /// threads do with the engine. A waiting port that is here counts as the thread that goes on
+    /// with what is ready, so no other port is woken for that.
     fn after(&self, piece: u64);
 
-    /// Whether neither call does anything. Such a gate needn't be told of combinations of a few bytes.
+    /// Tells whether both calls do nothing. Such a gate isn't called for short combinations.
     fn is_always_open(&self) -> bool {
         false
     }

@@ -1,26 +1,27 @@
-//! One engine for many threads, by flat combining: the thread that has the engine's lock does for all what they published, so that few
-//! threads wait for the lock itself.
+//! One engine for many threads, by flat combining (Hendler, Incze, Shavit, Tzafrir, SPAA 2010). The
+//! thread that holds the engine's lock carries out what all ports published, so that few threads
+//! wait for the lock itself.
 //!
 //! | Module | Has |
 //! |---|---|
-//! | `rank_programs` | `run_ranks`, which opens an engine, runs a `RankProgram` for each rank, and closes it |
-//! | `engine` | `Engine`; `open`, which makes one with its ports; `roomy`, a configuration with much room |
-//! | `port` | `Port`, a rank's way into the engine |
-//! | `closing` | `close`, which ends an engine and makes its report |
-//! | `rank_threads` | `run_rank_threads`, which runs a task for each rank in a thread of its own |
-//! | `gate` | `Gate`, which is called before and after a combination, and may hold a thread up before it |
-//! | `inspect` | `Inspect`, what looks at an engine under its lock |
-//! | `record` | `PublicationRecord`, a port's place to say what it wants |
-//! | `publication` | `Publication`, what lies there: an operation, a wait, or the answer |
-//! | `combiner` | `Combiner`, the lock and the records, and what the thread that has the lock does for all |
-//! | `combiner::held` | `Held`, a hold of the lock, which can't be dropped |
-//! | `locked` | `Locked`, what the lock guards |
-//! | `made_plan` | `MadePlan`, a plan for the port and for the combiner |
-//! | `looking` | the calls of a port on it, in words that outlast the hold of the lock |
-//! | `publishing` | posts and starts, which the combiner makes where the lock isn't free |
-//! | `waiter` | waits: to look at the record, to take the lock, and to park |
+//! | `rank_programs` | `run_ranks`: opens an engine, runs a `RankProgram` for each rank, and closes it |
+//! | `engine` | `Engine`; `open`: makes one with its ports; `roomy`: a configuration with much room |
+//! | `port` | `Port`: a rank's way into the engine |
+//! | `closing` | `close`: ends an engine and makes its report |
+//! | `rank_threads` | `run_rank_threads`: runs a task for each rank in a thread of its own |
+//! | `gate` | `Gate`: is called before and after a combination, and may hold a thread up before it |
+//! | `inspect` | `Inspect`: looks at an engine under its lock |
+//! | `record` | `PublicationRecord`: where a port publishes its call |
+//! | `publication` | `Publication`: what lies there, an operation, a wait, or the answer |
+//! | `combiner` | `Combiner`: the lock and the records, and what the lock's holder does for all |
+//! | `combiner::held` | `Held`: the lock's guard, which can't be dropped |
+//! | `locked` | `Locked`: what the lock guards |
+//! | `made_plan` | `MadePlan`: a plan for the port and its second copy for the combiner |
+//! | `looking` | a port's calls on the guarded state, in contracts that still hold once the lock is free |
+//! | `publishing` | posts and starts, which the combiner makes if the lock isn't free |
+//! | `waiter` | waits: spin on the record, take the lock, park |
 //! | `turn` | what a waiting port, a test and a progress thread do with the lock |
-//! | `plans` | `Plans`, those that a port made last |
+//! | `plans` | `Plans`: the plans that a port made last |
 //!
 //! ```
 //! let sum = Signature::allreduce(Op::Sum, Datatype::I32, 1);

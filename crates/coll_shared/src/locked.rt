@@ -8,7 +8,7 @@ use coll_core::{DoneShortWork, DoneWork, Stepped, Work};
 use coll_kinds::{Refusal, Refused};
 use coll_traced::{Entries, Ranks, TracedCore};
 
-/// How many steps are made in a row, before others are looked at.
+/// How many steps a combiner makes in a row before it looks after other ports.
 pub(crate) const STEPS: u32 = 64;
 
 /// What the lock guards: the core with its trace, and what is known of threads.
@@ -21,11 +21,12 @@ pub(crate) struct Locked<L: Entries> {
     pub(crate) away: Ranks,
     /// How many progress threads sleep, or are about to.
     pub(crate) idle: u32,
-    /// A request was finished since the registered waits were looked at.
+    /// A request was finished since the registered waits were checked.
     pub(crate) finished: bool,
     /// Progress threads are to end.
     pub(crate) stopped: bool,
-    /// A stall was reported, and nothing was ready since: the ports that are marked as stalled can't go on but by giving their waits up.
+    /// A deadlock was reported, and nothing was ready since. The ports that are marked can go on
+    /// only by giving their waits up.
     stalled: bool,
     pieces: u64,
 }
@@ -33,7 +34,7 @@ pub(crate) struct Locked<L: Entries> {
 /// Who goes on with what is ready once the lock is free.
 #[derive(Clone, Copy, Debug, PartialEq, Eq)]
 pub(crate) enum Successor {
-    /// Nobody has to: nothing is ready, or a waiting port takes the lock by itself.
+    /// Nobody has to: nothing is ready, or a waiting port will take the lock by itself.
     NotNeeded,
     /// A progress thread that sleeps.
     Worker,
@@ -57,8 +58,8 @@ impl<L: Entries> Locked<L> {
         }
     }
 
-    /// Makes the steps that need no combination, up to `STEPS` of them. A step that memory is refused for is left to who makes the
-    /// next one.
+    /// Makes the steps that need no combination, at most `STEPS` of them. A step that is refused
+    /// memory is left to the thread that makes the next one.
     #[inline(always)]
     pub(crate) fn advance(&mut self) {
         if !self.traced.is_ready() {
@@ -78,7 +79,7 @@ impl<L: Entries> Locked<L> {
         }
     }
 
-    /// The next step.
+    /// Makes the next step.
     #[inline(always)]
     pub(crate) fn step(&mut self) -> Result<Stepped, Refusal>
         ensures { IfErr result (λ why. why ≡ Refusal.NoMemory) }
@@ -90,7 +91,8 @@ impl<L: Entries> Locked<L> {
         stepped
     }
 
-    /// Writes the result of a combination, or takes back one that memory was refused for: another thread may compute it.
+    /// Writes the result of a combination. A combination that was refused memory is taken back,
+    /// because another thread may compute it.
     pub(crate) fn write(&mut self, computed: Result<DoneWork, Refused<Work>>) -> Result<(), Refusal>
         requires { IfErr computed (λ refused. refused.why ≡ Refusal.NoMemory) }
         ensures { IfErr result IsSetback }
@@ -109,7 +111,7 @@ impl<L: Entries> Locked<L> {
         }
     }
 
-    /// Writes the result of a combination of a few bytes.
+    /// Writes the result of a short combination.
     pub(crate) fn write_short(&mut self, done: DoneShortWork) -> Result<(), Refusal>
         ensures { IfErr result IsSetback }
     {
@@ -119,29 +121,31 @@ impl<L: Entries> Locked<L> {
         Ok(())
     }
 
-    /// The number of the next combination that is handed out. At the greatest number it stays there.
+    /// Returns the number of the next combination to be handed out. The number saturates.
     pub(crate) fn next_piece(&mut self) -> u64 {
         let piece = self.pieces;
         self.pieces = self.pieces.saturating_add(1);
         piece
     }
 
-    /// A waiting port begins to compute a combination, or has ended that.
+    /// Notes that a waiting port begins to compute a combination, or has ended that.
     pub(crate) fn set_away(&mut self, rank: Option<u8>, is_away: bool) {
         if let Some(rank) = rank {
             self.away = self.away.set(rank, is_away);
         }
     }
 
-    /// Whether a stall was reported while the rank's port waited for what it waits for now, and nothing has been ready since.
+    /// Tells whether a deadlock was reported while the rank's port waited for what it waits for
+    /// now, and nothing has been ready since.
     pub(crate) fn is_stalled(&self, rank: u8) -> bool
         ensures { IsTrue result → WasStalled L.setting rank }
     {
         self.stalled && self.traced.is_stalled(rank)
     }
 
-    /// Marks the ports that wait as stalled, where nothing can go on. Returns whether it did that. A port that is marked goes on once it has
-    /// the lock, so while there is one it isn't so that nothing can.
+    /// Marks the waiting ports, if the engine is deadlocked. Returns whether it marked them. A
+    /// marked port goes on once it has the lock, so no deadlock is reported again while one is
+    /// marked.
     pub(crate) fn tell_stall(&mut self) -> bool {
         if self.stalled && self.traced.some_is_marked() {
             return false;
@@ -151,19 +155,20 @@ impl<L: Entries> Locked<L> {
         is_stalled
     }
 
-    /// A waiting port gives its wait up.
+    /// Ends the wait of a port.
     pub(crate) fn give_up(&mut self, rank: Option<u8>) {
         if let Some(rank) = rank {
             self.traced.wake(rank);
         }
     }
 
-    /// The ranks whose waiting ports take the lock by themselves: they neither sleep nor compute.
+    /// Returns the ranks whose waiting ports will take the lock by themselves: they neither sleep
+    /// nor compute.
     fn spinning(&self) -> Ranks {
         self.traced.waiting().but(self.parked).but(self.away)
     }
 
-    /// Who goes on, where the thread that has the lock doesn't.
+    /// Returns who goes on if the lock's holder doesn't.
     pub(crate) fn successor(&self) -> Successor {
         if !self.traced.is_ready() || !self.spinning().is_empty() {
             return Successor::NotNeeded;

@@ -1,5 +1,5 @@
-//! The calls of a port on what the lock guards, with what outlasts the hold of the lock: that the port had made no more entries than there
-//! were is shown here, by `TracedCore::audit`.
+//! A port's calls on the guarded state, in contracts that still hold once the lock is free.
+//! `TracedCore::audit` shows in each that the trace has at least the port's entries.
 
 ghost use Rattle.std.specs.Prelude.{◌≡◌, ◌+◌, ◌<◌, ◌≤◌, [], ◌∷◌, ℕ, IfErr, IfOk, IfSome, IsNone, None, OnErr, OnOk, Some, false, length, vec_capacity, vec_len};
 ghost use Rattle.std.specs.Result.{result_err};

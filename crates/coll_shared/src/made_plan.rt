@@ -1,4 +1,4 @@
-//! A plan that a port made, and another one of the same for what it leaves to the combiner.
+//! A plan that a port made, and a second one of the same collective for the combiner.
 
 ghost use Rattle.std.specs.Prelude.{◌≡◌, All, IfOk, IfSome};
 
@@ -7,18 +7,19 @@ use coll_plans::{Plan, plan};
 use std::alloc::Global;
 use std::marker::Model;
 
-/// How many owners of the plan for the combiner are counted at one time.
+/// How many owners of the combiner's plan are counted at one time.
 const READY: usize = 64;
 
-/// A plan that a port made, twice. What the port's thread does itself goes by the first; what it leaves to the combiner by the second, whose
-/// owners that thread gives up. So each count of owners mostly stays in one processor's cache: else it goes to and fro four times in a post.
-/// Contracts see the plan.
+/// A port's plan, made twice. The port's own calls use the first; operations for the combiner carry
+/// owners of the second, which the combiner drops. So each count of owners mostly stays in one
+/// processor's cache. A shared count would go to and fro four times in a post. Contracts see the
+/// plan.
 #[derive(Drop)]
 pub(crate) struct MadePlan {
     own: Plan,
-    /// The second.
+    /// The second plan.
     lent: Plan,
-    /// Owners of the second that are counted already: each goes out with one operation.
+    /// Owners of the second plan that are counted already: each goes out with one operation.
     ready: Vec<Plan>,
 }
 
@@ -46,7 +47,7 @@ fn count_owners(plan: &Plan, owners: &mut Vec<Plan>)
 }
 
 impl MadePlan {
-    /// Of a plan, which is made again.
+    /// Makes the plan a second time.
     ///
     /// # Errors
     ///
@@ -60,14 +61,14 @@ impl MadePlan {
         Ok(MadePlan { own, lent, ready })
     }
 
-    /// The plan.
+    /// Returns the plan.
     pub(crate) fn own(&self) -> &Plan
         ensures { result.now ≡ self.now }
     {
         &self.own
     }
 
-    /// The second plan; none where it has as many owners as can be counted.
+    /// Returns an owner of the second plan; None if its count of owners is full.
     pub(crate) fn lend(&mut self) -> Option<Plan>
         ensures lent { IfSome result (λ lent. lent ≡ self.old) }
         ensures same { self.new ≡ self.old }

@@ -8,18 +8,18 @@ use coll_kinds::{Refusal, Signature};
 use coll_plans::{Plan, plan};
 use std::alloc::Global;
 
-/// How many plans a port has at most.
+/// The most plans that a port keeps.
 const MOST: usize = 8;
 
-/// The plans that a port made last, so that a collective which it posts again and again is planned once. To look one up is linear in
-/// their number.
+/// The plans that a port made last, so that a collective which it posts again is planned once. A
+/// look-up is linear in their number.
 #[derive(Drop)]
 pub(crate) struct Plans {
     alloc: Global,
     plans: Vec<MadePlan>,
 }
 
-/// Whether a plan is that member's of such a collective.
+/// Tells whether a plan is that member's of such a collective.
 fn is_of(plan: &Plan, sig: &Signature, n: u8, member: u8) -> bool
     ensures is { IsTrue result → plan.now ≡ record { sig = sig.now; n = n; member = member } }
     ensures checked { IsTrue result → broken sig.now n ≡ None }
@@ -28,7 +28,7 @@ fn is_of(plan: &Plan, sig: &Signature, n: u8, member: u8) -> bool
 }
 
 impl Plans {
-    /// No plan. It takes no memory.
+    /// Keeps no plan yet. Takes no memory.
     pub(crate) fn new(alloc: Global) -> Self {
         Plans {
             alloc,
@@ -36,7 +36,8 @@ impl Plans {
         }
     }
 
-    /// The member's plan of a collective, as `plan` of `coll_plans` answers it: a copy of one of these, or a new one.
+    /// Returns the member's plan of a collective, as `coll_plans::plan` does: a copy of a kept one,
+    /// or a new one.
     ///
     /// # Errors
     ///
@@ -57,11 +58,12 @@ impl Plans {
         Ok(made)
     }
 
-    /// Another plan of the same, by which the combiner makes a post; where the port made none like it, a copy of this one.
+    /// Returns a second plan of the same collective, for the combiner; a copy of `plan` if the port
+    /// keeps none.
     ///
     /// # Errors
     ///
-    /// NoMemory where the plan has as many owners as can be counted.
+    /// NoMemory if the plan's count of owners is full.
     pub(crate) fn lent(&mut self, plan: &Plan) -> Result<Plan, Refusal>
         ensures plan { IfOk result (λ p. p ≡ plan.now) }
         ensures refused { IsOkUnless result Refusal.NoMemory }
@@ -76,7 +78,7 @@ impl Plans {
         plan.share()
     }
 
-    /// The plan of such a collective, if there is one.
+    /// Returns the kept plan of such a collective.
     fn known(&self, sig: &Signature, n: u8, member: u8) -> Option<&MadePlan>
         ensures is { IfSome result (λ made. made.now ≡ record { sig = sig.now; n = n; member = member }) }
         ensures checked { IsSome result → broken sig.now n ≡ None }
@@ -89,7 +91,7 @@ impl Plans {
         None
     }
 
-    /// Adds a plan; where there are enough, those before it go. Where memory is short it is left out.
+    /// Keeps a plan. A full list is emptied first. Without memory the plan isn't kept.
     fn add(&mut self, made: &Plan) {
         if self.plans.len() >= MOST {
             self.plans.clear();

@@ -44,7 +44,7 @@ impl<L: Entries> Model for Port<L> {
 }
 
 impl<L: Entries> Port<L> {
-    /// Of a rank that made no entry yet.
+    /// Makes the port of a rank that has no entry yet.
     pub(crate) fn new(
         alloc: Global,
         combiner: Arc<Combiner<L>>,
@@ -66,14 +66,14 @@ impl<L: Entries> Port<L> {
         }
     }
 
-    /// The port's world rank.
+    /// Returns the port's world rank.
     pub fn rank(&self) -> u8
         ensures { result ≡ self.now.rank }
     {
         self.rank
     }
 
-    /// How many entries of the trace are this port's.
+    /// Returns how many entries of the trace are this port's.
     pub fn made(&self) -> u64
         ensures { result ≡ self.now.made }
     {
@@ -83,8 +83,9 @@ impl<L: Entries> Port<L> {
         }
     }
 
-    /// The rank's plan of a collective, for a post or an initialisation. It takes no lock: plans are made while others
-    /// use the engine. The last ones are kept, so that a collective which is posted again isn't planned again.
+    /// Returns the rank's plan of a collective, for a post or an initialisation. Takes no lock, so
+    /// plans are made while others use the engine. Keeps the last plans, so that a collective which
+    /// is posted again isn't planned again.
     ///
     /// # Errors
     ///
@@ -104,7 +105,8 @@ impl<L: Entries> Port<L> {
         self.plans.plan_of(sig, seat.size, seat.member)
     }
 
-    /// Ends the port. No call waits for its rank any longer: it counts as one that can't go on.
+    /// Ends the port. No call waits for its rank any longer: in the search for deadlocks the rank
+    /// counts as one that can't go on.
     pub fn finish<R: Wait>(self, rt: &R) -> Spent<L>
         ensures { result ≡ (self.rank, self.made) }
     {
@@ -124,7 +126,8 @@ impl<L: Entries> Port<L> {
     }
 }
 
-/// A port that is let go unfinished ends too, so that no other waits for it for ever; its engine can't be closed any longer.
+/// Dropping an unfinished port ends it too, so that no other port waits for it for ever. Its engine
+/// can't be closed any longer.
 impl<L: Entries> Drop for Port<L> {
     fn drop(self) {
         let Port {

@@ -1,4 +1,4 @@
-//! What lies in a publication record.
+//! The contents of a publication record.
 
 ghost use Rattle.std.specs.Prelude.{◌≡◌, ◌↔◌, ◌+◌, IfErr, IfNone, IfOk, IfSome, IsTrue, slice_set};
 ghost use Rattle.std.specs.Bool.{OnFalse, OnTrue};
@@ -19,7 +19,7 @@ use std::mem;
 /// What was published, or the answer to it.
 #[derive(Drop)]
 pub(crate) enum Content<L: Entries> {
-    /// A post or a start is to be made.
+    /// A post or a start, which is to be made.
     Operation(Operation),
     /// The port waits for the request.
     Wait(Ticket),
@@ -27,11 +27,11 @@ pub(crate) enum Content<L: Entries> {
     Made(Ticket, Appended),
     /// The request was completed.
     Completed(Completed<L>),
-    /// The port is to look itself.
+    /// The port is to take the lock, and check itself.
     Look,
 }
 
-/// It lies in a record, with its port's tally.
+/// What lies in a record, with its port's tally.
 #[derive(Drop)]
 pub(crate) struct Publication<L: Entries> {
     pub(crate) tally: Tally<L>,
@@ -53,7 +53,7 @@ pub(crate) enum Expected<'a> {
 }
 
 impl Expected<'_> {
-    /// Whether the entry is of just this post or start by the rank, and of the request.
+    /// Tells whether the entry is of exactly this post or start by the rank, and of the request.
     fn is_made(&self, rank: u8, request: Ticket, entry: &Entry) -> bool
         ensures { IsTrue result → IsExpected rank self.now request (seen entry.now) }
     {
@@ -68,7 +68,7 @@ impl Expected<'_> {
     }
 }
 
-/// Whether the tally counts one more than before.
+/// Tells whether the tally counts one more entry than `before`.
 fn is_one_more<L: Entries>(tally: &Tally<L>, before: u64) -> bool
     ensures { IsTrue result ↔ (tally.now ≡ before + 1) }
 {
@@ -91,7 +91,7 @@ fn has_to_wait<L: Entries>(traced: &mut TracedCore<L>, rank: u8, ticket: Ticket)
 }
 
 impl<L: Entries> Publication<L> {
-    /// Makes the operation that was published; the port is to look itself where that is refused.
+    /// Makes the published operation. If the engine refuses it, the port is to check itself.
     #[inline(always)]
     fn make(&mut self, traced: &mut TracedCore<L>, rank: u8)
         ensures { IsServed L.setting rank self.old.content self.old.tally traced.old.entries self.new.content self.new.tally traced.new.entries }
@@ -106,7 +106,8 @@ impl<L: Entries> Publication<L> {
         }
     }
 
-    /// Does what was published, or registers the port's wait. Returns whether an answer is in it; then the port is awake.
+    /// Carries out what was published, or registers the port's wait. Returns whether there is an
+    /// answer now; then the port is awake.
     #[inline(always)]
     pub(crate) fn serve(&mut self, traced: &mut TracedCore<L>, rank: u8) -> bool
         ensures served { IsServed L.setting rank self.old.content self.old.tally traced.old.entries self.new.content self.new.tally traced.new.entries }
@@ -128,8 +129,8 @@ impl<L: Entries> Publication<L> {
         true
     }
 
-    /// Answers a registered port, which is awake then: it completes the request that the port waits for, where that is Done; else the
-    /// port is to look itself.
+    /// Answers a registered port, which is awake then. Completes the request that the port waits
+    /// for, if it is Done; else the port is to check itself.
     #[inline(always)]
     pub(crate) fn answer(&mut self, traced: &mut TracedCore<L>, rank: u8)
         ensures answered { IsAnswered rank self.old.content self.old.tally traced.old.entries self.new.content self.new.tally traced.new.entries }
@@ -144,8 +145,9 @@ impl<L: Entries> Publication<L> {
         traced.wake(rank);
     }
 
-    /// The answer to a post or start that a port published which had made `before` entries: its tally, with the request and what
-    /// shows the entry where it was made, and none where the port has to look itself. What isn't the answer is given back.
+    /// Takes the answer to a post or start that the port published after `before` entries: the
+    /// tally, with the request and the entry if the operation was made, or None if the port has to
+    /// check itself. Anything else is given back.
     pub(crate) fn made(
         self,
         rank: u8,
@@ -170,7 +172,8 @@ impl<L: Entries> Publication<L> {
         }
     }
 
-    /// The same of a wait for one request: its completion, or none where the port has to look itself.
+    /// Takes the answer to a wait for one request: the completion, or None if the port has to check
+    /// itself.
     pub(crate) fn completed(
         self,
         rank: u8,
@@ -195,8 +198,8 @@ impl<L: Entries> Publication<L> {
         }
     }
 
-    /// The tally of a port that gives its wait up, where nothing was made for it since it had made `before` entries; else the
-    /// publication itself.
+    /// Returns the tally of a port that gives its wait up, if nothing was made for it after
+    /// `before` entries; else the publication.
     pub(crate) fn taken_back(self, before: u64) -> Result<Tally<L>, Publication<L>>
         ensures { IfOk result (λ tally. tally ≡ before) }
     {

@@ -1,4 +1,5 @@
-//! Posts and starts of a port, which it makes itself where the lock is free, and else has made by the combiner.
+//! A port's posts and starts. The port makes them itself if the lock is free; else the combiner
+//! does.
 
 ghost use Rattle.std.specs.Prelude.{◌≡◌, ◌+◌, IfErr, IfNone, IfOk, IfSome, OnErr, OnOk, Some};
 ghost use Rattle.coll_core.specs.Posts.{post_of};
@@ -20,7 +21,7 @@ use std::rt::Clock;
 use std::sync::Wait;
 
 impl<L: Entries> Combiner<L> {
-    /// Waits until there is an answer in the record, or serves it as the combiner.
+    /// Waits until there is an answer in the record, or serves the record as the combiner.
     fn await_made<R: Wait + Clock>(&self, rt: &R, record: &PublicationRecord<L>) {
         let mut policy = self.processors.policy(rt, record.history());
         if let Some(held) = self.spin(rt, record, &mut policy) {
@@ -29,7 +30,8 @@ impl<L: Entries> Combiner<L> {
         }
     }
 
-    /// Has an operation made by the combiner. None where it wasn't made: the port is to see itself why.
+    /// Has an operation made by the combiner. Returns None if it wasn't made; the port is to find
+    /// out why.
     fn have_made<R: Wait + Clock>(
         &self,
         rt: &R,
@@ -56,7 +58,8 @@ impl<L: Entries> Combiner<L> {
         unreachable!()
     }
 
-    /// Takes the lock for a post of a port that leads, unless a thread has it. What the post keeps is made before that.
+    /// Takes the lock for a post, if the port leads and the lock is free. What the post keeps is
+    /// made before that.
     fn lead_post(
         &self,
         alloc: Global,
@@ -75,7 +78,7 @@ impl<L: Entries> Combiner<L> {
         Some((held, prepared))
     }
 
-    /// Starts a collective for a port, whose tally it returns.
+    /// Starts a collective for a port. Returns the port's tally.
     pub(crate) fn post<R: Wait + Clock>(
         &self,
         rt: &R,
@@ -119,7 +122,7 @@ impl<L: Entries> Combiner<L> {
         (tally, posted)
     }
 
-    /// Starts a persistent request for a port, whose tally it returns.
+    /// Starts a persistent request for a port. Returns the port's tally.
     pub(crate) fn start<R: Wait + Clock>(
         &self,
         rt: &R,

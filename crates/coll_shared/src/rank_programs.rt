@@ -22,10 +22,10 @@ use std::thread::Threads;
 
 /// What the thread of a rank does.
 pub trait RankProgram<T> {
-    /// What it may give, with the port of that rank.
+    /// What it may return, with the port of that rank.
     ghost Gives: { Self → ℕ → T → Type 0 } = { λ _ _ _. Unit {0} };
 
-    /// Uses the port of its rank. It ends with no active request, or the engine isn't closed.
+    /// Uses the port of its rank. The engine can be closed only if no request is active at the end.
     fn run<L: Entries, R: Wait + Clock>(self, rt: &R, port: &mut Port<L>) -> T
         ensures { Gives self port.old.rank result };
 }
@@ -34,7 +34,7 @@ pub trait RankProgram<T> {
 #[derive(Drop)]
 struct RankEnd<L: Entries, T> {
     spent: Spent<L>,
-    /// None where some thread couldn't be started.
+    /// None if some thread couldn't be started.
     value: Option<T>,
 }
 
@@ -71,14 +71,17 @@ impl<L: Entries, R: Wait + Clock, T: Drop, P: RankProgram<T> + Drop> RankTask<Ra
     }
 }
 
-/// Opens an engine, runs a program for each of its ranks in a thread of its own, with `workers` progress threads beside them, and
-/// closes the engine: the programs' values in the order of their ranks, and the report of all that the engine accepted. `gate` may hold a
-/// progress thread up at a combination.
+/// Opens an engine, runs a program for each of its ranks in a thread of its own, and closes the
+/// engine. `workers` progress threads run beside them; `gate` may hold one up at a combination.
+/// Returns the programs' values in the order of ranks, and the report of all calls that the engine
+/// accepted.
 ///
 /// # Errors
 ///
-/// BadConfig with the first field that is out of its range; NoMemory, also where a thread couldn't be started, and then no program was
-/// run; why a progress thread ended before it was to; StillActive with the lowest rank that left a request active.
+/// - BadConfig with the first field that is out of its range.
+/// - NoMemory, also if a thread couldn't be started; then no program was run.
+/// - Why a progress thread ended before it was to.
+/// - StillActive with the lowest rank that left a request active.
 pub fn run_ranks<
     R: Threads + Wait + Clock + Sync,
     G: Gate + Sync,
@@ -101,7 +104,7 @@ pub fn run_ranks<
     run_in::<Brand, R, G, T, P>(rt, alloc, config, workers, gate, programs, entries)
 }
 
-/// The same. `entries` names the ledger of the engine's entries.
+/// `run_ranks` with the ledger of the engine's entries.
 fn run_in<
     L: Entries + Send + Sync,
     R: Threads + Wait + Clock + Sync,
@@ -131,7 +134,7 @@ fn run_in<
     concluded(rt, alloc, engine, ends)
 }
 
-/// Each program with the port of its rank.
+/// Gives each program the port of its rank.
 fn tasks_of<'x, L: Entries, R, P: Drop>(
     rt: &'x R,
     alloc: Global,
@@ -172,11 +175,11 @@ fn concluded<L: Entries, R: Wait, T: Drop>(
     }
 }
 
-/// The ends of the ports, and the values of the programs.
+/// Separates the ends of the ports from the values of the programs.
 ///
 /// # Errors
 ///
-/// NoMemory, also where a program wasn't run.
+/// NoMemory, also if a program wasn't run.
 fn apart<L: Entries, T: Drop>(
     alloc: Global,
     ends: Vec<RankEnd<L, T>>,

@@ -1,4 +1,5 @@
-//! Threads that begin together: one for each rank of an engine, and progress threads for all. They are started and joined here.
+//! Threads that begin together: one for each rank of an engine, and progress threads for all. They
+//! are started and joined here.
 
 ghost use Rattle.std.specs.Prelude.{◌≡◌, ◌≤◌, [], All, IfOk, IfSome, length, map, vec_capacity, vec_len};
 ghost use Rattle.std.specs.Bool.{OnTrue};
@@ -30,7 +31,8 @@ impl<T, K: RankTask<T>> Promise<T> for EndOf<K> {
     ghost kept_by = { λ p end. K.IsEnd p.0.value end };
 }
 
-/// What a progress thread promises: it ended as it was to, or for a reason that `Engine::work` returns.
+/// What a progress thread promises: it was stopped, or ended for a reason that `Engine::work`
+/// returns.
 #[derive(Clone, Copy)]
 struct Progress;
 
@@ -41,14 +43,14 @@ impl Promise<Option<Refusal>> for Progress {
     ghost kept_by = { λ _ end. IfSome end IsSetback };
 }
 
-/// Runs each rank's task in a thread of its own, with `workers` progress threads beside them, and joins them all. They
-/// begin together, once all have been started. `tasks` are in rising rank. `gate` may hold a progress thread up at a
-/// combination. Where all could be started, each task ended as it says by `IsEnd`, in the order of the tasks, and there is an end of
-/// each progress thread.
+/// Runs each rank's task in a thread of its own, with `workers` progress threads beside them, and
+/// joins them all. `tasks` are in rising rank. The threads begin together, once all have been
+/// started. `gate` may hold a progress thread up at a combination. If all could be started, each
+/// task ended as its `IsEnd` says, in the order of the tasks, and each progress thread has an end.
 ///
 /// # Errors
 ///
-/// Memory was refused, before the first thread was started.
+/// No memory, before the first thread was started.
 pub fn run_rank_threads<
     L: Entries + Send + Sync,
     R: Threads + Wait + Sync,
@@ -110,14 +112,16 @@ fn run_in_scope<
     Ok(Ends::of(all_started, ranks, worker_ends))
 }
 
-/// Tells the engine how many threads use it, on how many processors. Where the system doesn't say, they share one.
+/// Tells the engine how many threads use it, on how many processors. If the system doesn't say, the
+/// threads count as sharing processors.
 fn fit<L: Entries, R: Threads>(rt: &R, engine: &Engine<L>, ranks: usize, workers: u8) {
     let processors = thread::available_parallelism(rt).map_or(1, |count| count.get());
     let threads = ranks.saturating_add(usize::from(workers));
     engine.combiner.processors.fit(threads, processors);
 }
 
-/// Starts the threads of the ranks, in their order, up to one that can't be started. Returns whether there was none.
+/// Starts the threads of the ranks, in the order of ranks, up to one that can't be started. Returns
+/// whether all were.
 fn start_ranks<
     's,
     E,
@@ -146,7 +150,7 @@ fn start_ranks<
     true
 }
 
-/// Starts `workers` progress threads, up to one that can't be started. Returns whether there was none.
+/// Starts `workers` progress threads, up to one that can't be started. Returns whether all were.
 fn start_workers<'s, E, L: Entries + Send + Sync, R: Threads + Wait + Sync, G: Gate + Sync>(
     rt: &'s R,
     scope: &Scope<'s, E>,
@@ -170,7 +174,7 @@ fn start_workers<'s, E, L: Entries + Send + Sync, R: Threads + Wait + Sync, G: G
     true
 }
 
-/// Does a rank's task, once it is known whether all threads have been started.
+/// Does a rank's task, once it is known whether all threads were started.
 fn run_rank<R: Wait, T, K: RankTask<T>>(rt: &R, start: &Start, task: K) -> T
     ensures { K.IsEnd task result }
 {
@@ -178,7 +182,8 @@ fn run_rank<R: Wait, T, K: RankTask<T>>(rt: &R, start: &Start, task: K) -> T
     task.run(all_started)
 }
 
-/// Makes progress until the engine is stopped, once all threads have been started. Why it ended before that.
+/// Makes progress until the engine is stopped, once all threads were started. Returns why it ended
+/// before that.
 fn run_worker<L: Entries, R: Wait, G: Gate>(
     rt: &R,
     gate: &G,
@@ -194,7 +199,7 @@ fn run_worker<L: Entries, R: Wait, G: Gate>(
     }
 }
 
-/// Waits for the threads of the ranks, in their order.
+/// Waits for the threads of the ranks, in the order of ranks.
 fn join_ranks<T: Drop, K: RankTask<T> + Drop, R: Threads>(
     rt: &R,
     threads: Vec<PromisedHandle<T, EndOf<K>>>,

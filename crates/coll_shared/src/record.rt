@@ -20,23 +20,25 @@ const REGISTERED: u64 = 2;
 
 const ANSWERED: u64 = 3;
 
-/// As Registered, and the parked port is to go on.
+/// Registered, and the parked port is summoned: it is to take the lock and go on.
 const CALLED: u64 = 4;
 
-/// A port's place to say what it wants. The word says whose the slot is: the port's while Empty or Answered, else the combiner's. A
-/// parked port sleeps on the word.
+/// Where a port publishes its call. The word says who owns the slot: the port while it is Empty or
+/// Answered, else the combiner. A parked port sleeps on the word.
 #[derive(Drop)]
 pub(crate) struct PublicationRecord<L: Entries> {
-    /// A port that waits looks at it, on lines of its own, while the combiner works on the slot.
+    /// A waiting port spins on the word. The word has cache lines of its own, because the combiner
+    /// works on the slot meanwhile.
     word: CachePadded<AtomicU64>,
     /// Whether the port served its last call itself. Only the port uses it.
     leads: AtomicBool,
     history: WaitHistory,
-    /// On lines of its own too, so that the port keeps those before it while the combiner writes here.
+    /// The slot has cache lines of its own too, so that the port keeps the lines before it while
+    /// the combiner writes here.
     slot: CachePadded<Mutex<Option<Publication<L>>>>,
 }
 
-/// The port has found what it wants in what it took out of the slot, or puts that back.
+/// Takes what the port wants out of the slot, or puts the contents back.
 fn concluded<L: Entries, T>(
     mut slot: MutexGuard<'_, Option<Publication<L>>>,
     found: Result<T, Publication<L>>,
@@ -62,18 +64,19 @@ impl<L: Entries> PublicationRecord<L> {
         }
     }
 
-    /// Whether the port served its last call itself: then it has the engine in its processor's caches, and tries to take the lock before
-    /// it publishes the next one.
+    /// Tells whether the port served its last call itself. If so, the engine lies in its
+    /// processor's caches, and the port tries for the lock before it publishes the next call.
     pub(crate) fn leads(&self) -> bool {
         self.leads.load(Ordering::Relaxed)
     }
 
-    /// What the port has found in its waits.
+    /// Returns what the port has found in its waits.
     pub(crate) fn history(&self) -> &WaitHistory {
         &self.history
     }
 
-    /// Nothing is written where all is as before: each store of an atomic waits until all stores before it are done.
+    /// Notes whether the port served its call itself. Writes nothing if nothing changes, because
+    /// each store of an atomic waits for all stores before it.
     pub(crate) fn set_leads(&self, leads: bool) {
         if self.leads() != leads {
             self.leads.store(leads, Ordering::Relaxed);
@@ -88,31 +91,32 @@ impl<L: Entries> PublicationRecord<L> {
         self.word.load(Ordering::SeqCst) == ANSWERED
     }
 
-    /// The port publishes what it wants, with its tally.
+    /// Publishes what the port wants, with its tally.
     #[inline(always)]
     pub(crate) fn publish<R: Wait>(&self, rt: &R, content: Content<L>, tally: Tally<L>) {
         *self.slot.lock(rt) = Some(Publication { content, tally });
         self.word.store(PUBLISHED, Ordering::SeqCst);
     }
 
-    /// The port, which has the engine's lock, has registered a wait for some of a list.
+    /// Notes that the port, which holds the lock, has registered a wait for requests of a list.
     pub(crate) fn register<R: Wait>(&self, _rt: &R) {
         self.word.store(REGISTERED, Ordering::SeqCst);
     }
 
-    /// The combiner calls the port, which is parked: it is to take the lock, and waits as before.
+    /// Summons the parked port: it is to take the lock, and goes on waiting.
     pub(crate) fn call(&self) {
         self.word.store(CALLED, Ordering::SeqCst);
     }
 
-    /// The port has taken the engine's lock, as it was called to.
+    /// Notes that the port has taken the lock, as it was summoned to.
     pub(crate) fn heed(&self) {
         if self.word.load(Ordering::SeqCst) == CALLED {
             self.word.store(REGISTERED, Ordering::SeqCst);
         }
     }
 
-    /// The combiner does what was published here, or registers the port. Returns whether there is an answer now; then the port is awake.
+    /// Lets the combiner carry out what was published here, or register the port. Returns whether
+    /// there is an answer now; then the port is awake.
     #[inline(always)]
     pub(crate) fn serve(&self, traced: &mut TracedCore<L>, rank: u8) -> bool
         ensures awake { OnTrue result (IsAwake rank traced.new.waits) }
@@ -131,8 +135,9 @@ impl<L: Entries> PublicationRecord<L> {
         is_over
     }
 
-    /// The combiner answers a registered port: with the completion where it waits for just one request and that is Done, else that it is
-    /// to look itself. Returns whether there is an answer now; then the port is awake.
+    /// Lets the combiner answer a registered port. The answer is the completion, if the port waits
+    /// for exactly one request and that is Done; else the port is to check itself. Returns whether
+    /// there is an answer now; then the port is awake.
     pub(crate) fn answer(&self, traced: &mut TracedCore<L>, rank: u8) -> bool
         ensures awake { OnTrue result (IsAwake rank traced.new.waits) }
         ensures pending { OnFalse result (traced.new.waits ≡ traced.old.waits) }
@@ -149,7 +154,8 @@ impl<L: Entries> PublicationRecord<L> {
         true
     }
 
-    /// The port takes the answer to its post or start, if that lies here, with its tally. What isn't the answer stays.
+    /// Takes the answer to the port's post or start, with its tally, if it lies here. Anything else
+    /// stays.
     pub(crate) fn take_made<R: Wait>(
         &self,
         rt: &R,
@@ -169,7 +175,7 @@ impl<L: Entries> PublicationRecord<L> {
         concluded(slot, found)
     }
 
-    /// The same of a wait for one request.
+    /// Takes the answer to a wait for one request in the same way.
     pub(crate) fn take_completed<R: Wait>(
         &self,
         rt: &R,
@@ -189,7 +195,7 @@ impl<L: Entries> PublicationRecord<L> {
         concluded(slot, found)
     }
 
-    /// The port gives its wait up, and takes its tally back.
+    /// Gives the port's wait up, and takes its tally back.
     pub(crate) fn take_back(&self, before: u64) -> Option<Tally<L>>
         ensures { IfSome result (λ tally. tally ≡ before) }
     {
@@ -200,12 +206,12 @@ impl<L: Entries> PublicationRecord<L> {
         Some(tally)
     }
 
-    /// The port, which waited for a list, goes on.
+    /// Lets the port, which waited for a list, go on.
     pub(crate) fn clear(&self) {
         self.word.store(EMPTY, Ordering::SeqCst);
     }
 
-    /// The port sleeps until it is answered or called.
+    /// Parks the port until it is answered or summoned.
     pub(crate) fn park<R: Wait>(&self, rt: &R) {
         for _ in rt.forever() {
             if self.word.load(Ordering::SeqCst) != REGISTERED {

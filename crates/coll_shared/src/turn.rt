@@ -1,4 +1,5 @@
-//! What a thread does with the lock that goes on with what is ready: a waiting port, one that tests, and a progress thread.
+//! What a thread with the lock does to go on with what is ready: a waiting port, a test, or a
+//! progress thread.
 
 ghost use Rattle.std.specs.Prelude.{◌≡◌, IfErr};
 ghost use Rattle.coll_traced.specs.Awaiting.{IsHindrance, IsSetback};
@@ -16,28 +17,28 @@ use std::sync::Wait;
 /// How many combinations a waiting port computes in a row.
 const CHAIN: u32 = 16;
 
-/// How the turn of a waiting port ended, which has given the lock up.
+/// How the session of a waiting port with the lock ended. The lock is free again.
 #[derive(Drop)]
 pub(crate) enum Turn {
     /// There is an answer.
     Over,
-    /// It looks at its record.
+    /// It spins on its record.
     Spin,
     /// It sleeps.
     Park,
 }
 
-/// What a waiting port that has the lock does next.
+/// What a waiting port with the lock does next.
 enum Next {
-    /// It looks round again.
+    /// It checks again.
     Again,
     /// It computes a combination, with the lock free.
     Compute(Work),
-    /// It ends its turn.
+    /// It ends its session.
     End(Turn),
 }
 
-/// What a waiting port did in its turn.
+/// What a waiting port did in its session.
 #[derive(Clone, Copy, Default)]
 struct Effort {
     steps: u32,
@@ -47,7 +48,8 @@ struct Effort {
 }
 
 impl<L: Entries> Combiner<L> {
-    /// Gives the lock up, and calls the gate for the piece whose result was written meanwhile.
+    /// Gives the lock up, and calls the gate for the combination whose result was written
+    /// meanwhile.
     fn leave<'a, G: Gate>(&'a self, gate: &G, held: Held<'a, L>, written: Option<u64>) {
         self.release(held);
         if let Some(piece) = written {
@@ -55,11 +57,12 @@ impl<L: Entries> Combiner<L> {
         }
     }
 
-    /// A turn of a waiting port, which has the lock.
+    /// Runs a session of a waiting port, which holds the lock.
     ///
     /// # Errors
     ///
-    /// Stalled where nothing can go on; NoMemory and Stale of a step or a combination. The wait is given up then.
+    /// Stalled if the engine is deadlocked; NoMemory and Stale of a step or a combination. The
+    /// port's wait is over then.
     pub(crate) fn turn<'a, R: Wait, G: Gate>(
         &'a self,
         rt: &R,
@@ -100,8 +103,9 @@ impl<L: Entries> Combiner<L> {
         unreachable!()
     }
 
-    /// Computes the combinations of a few bytes that come first, up to `STEPS` of them, in the turn of a waiting port. They prolong no turn:
-    /// who is answered in it and sleeps is woken at its end, and others may go on for ever.
+    /// Computes the short combinations that come first, at most `STEPS` of them, in a waiting
+    /// port's session. The bound is needed because a sleeping port whose request is done is woken
+    /// only at the session's end, and the other ranks could go on for ever.
     ///
     /// # Errors
     ///
@@ -132,7 +136,7 @@ impl<L: Entries> Combiner<L> {
         Ok(held)
     }
 
-    /// What a waiting port does next.
+    /// Returns what a waiting port does next.
     fn next(
         &self,
         held: &mut Held<'_, L>,
@@ -172,13 +176,14 @@ impl<L: Entries> Combiner<L> {
         Ok(Next::End(Turn::Spin))
     }
 
-    /// Computes a combination with the lock free, after the gate was called for the one that was written before; and writes its result.
-    /// Then the lock is held again, and the gate is still to be called for this one.
+    /// Computes a combination with the lock free, and writes its result. First the gate is called
+    /// for the combination written before. At the end the lock is held again, and the gate is still
+    /// to be called for this combination.
     ///
     /// # Errors
     ///
-    /// NoMemory where the combination was refused memory; Stale where its result isn't wanted any longer. The lock is given up, and
-    /// so is the wait of the port, if one computed it.
+    /// NoMemory if the combination was refused memory; Stale if its result isn't wanted any longer.
+    /// The lock is free then, and the wait of the port that computed it is over.
     fn compute<'a, R: Wait, G: Gate>(
         &'a self,
         rt: &R,
@@ -205,8 +210,9 @@ impl<L: Entries> Combiner<L> {
         Ok((held, piece))
     }
 
-    /// Takes the lock for a test, and makes progress: the steps that need no combination, and one combination where nobody else is there
-    /// to compute it. That one isn't numbered, and no gate is called for it. Where it is refused, the next call finds it again.
+    /// Takes the lock for a test, and makes progress: the steps that need no combination, and one
+    /// combination if nobody else is there to compute it. That combination has no number, and no
+    /// gate is called for it. If it is refused, the next call finds it again.
     pub(crate) fn enter_to_test<R: Wait>(&self, rt: &R) -> Held<'_, L> {
         let mut held = self.enter(rt);
         self.combine(&mut held);
@@ -232,11 +238,12 @@ impl<L: Entries> Combiner<L> {
         held
     }
 
-    /// A progress thread, until it is stopped. Returns how many combinations it computed.
+    /// Runs a progress thread until it is stopped. Returns how many combinations it computed.
     ///
     /// # Errors
     ///
-    /// NoMemory of a step or a combination; Stale where the result of one isn't wanted any longer.
+    /// NoMemory of a step or a combination; Stale if the result of a combination isn't wanted any
+    /// longer.
     pub(crate) fn work<R: Wait, G: Gate>(&self, rt: &R, gate: &G) -> Result<u64, Refusal>
         ensures { IfErr result IsSetback }
     {
@@ -275,8 +282,9 @@ impl<L: Entries> Combiner<L> {
         unreachable!()
     }
 
-    /// A progress thread that has the lock sleeps, since nothing is ready, and takes the lock again. It is counted under the lock, so that
-    /// a thread which makes something ready later wakes it.
+    /// Lets a progress thread that holds the lock sleep, because nothing is ready, and take the
+    /// lock again. It is counted under the lock, so that a thread which makes something ready later
+    /// wakes it.
     fn idle<'a, R: Wait, G: Gate>(
         &'a self,
         rt: &R,
@@ -297,33 +305,33 @@ impl<L: Entries> Combiner<L> {
 }
 
 impl Effort {
-    /// Whether the port has done its part, and is to look at its record.
+    /// Tells whether the port has done its part, and is to spin on its record.
     fn is_enough(&self) -> bool {
         self.steps >= STEPS || self.combinations >= CHAIN
     }
 
-    /// A step was made.
+    /// Notes a step.
     fn step(&mut self) -> Next {
         self.looks = 0;
         self.steps = self.steps.saturating_add(1);
         Next::Again
     }
 
-    /// A combination is computed.
+    /// Notes a combination that is to be computed.
     fn compute(&mut self, work: Work) -> Next {
         self.looks = 0;
         self.combinations = self.combinations.saturating_add(1);
         Next::Compute(work)
     }
 
-    /// Nothing was ready.
+    /// Notes that nothing was ready.
     fn look(&mut self) -> Next {
         pause_with_the_lock(self.looks);
         self.looks = self.looks.saturating_add(1);
         Next::Again
     }
 
-    /// Whether it is to be looked whether nothing can go on: after twice as many looks each time.
+    /// Tells whether to check for a deadlock now: after twice as many spins each time.
     fn is_doubled(&self) -> bool {
         self.looks.is_power_of_two()
     }

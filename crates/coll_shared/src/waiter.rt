@@ -1,4 +1,5 @@
-//! How a port waits: it looks at its record, takes the lock now and then, goes on with what is ready for all, and parks where nothing is.
+//! How a port waits: it spins on its record, takes the lock now and then, goes on with what is
+//! ready for all ports, and parks if nothing is.
 
 ghost use Rattle.std.specs.Prelude.{◌≡◌, ◌+◌, ◌⊎◌, IfErr, IfNone, IfOk, IfSome, None, OnErr, Some, true};
 ghost use Rattle.coll_traced.specs.Awaiting.{IsHindrance};
@@ -19,8 +20,8 @@ use std::rt::Clock;
 use std::sync::Wait;
 
 impl<L: Entries> Combiner<L> {
-    /// Looks for an answer in the record, and now and then whether the lock is free; takes the lock after the last look. None where there is an
-    /// answer.
+    /// Spins until there is an answer in the record, and now and then tries for the lock. Takes the
+    /// lock after the last spin. Returns None if there is an answer.
     pub(crate) fn spin<R: Wait + Clock>(
         &self,
         rt: &R,
@@ -45,7 +46,8 @@ impl<L: Entries> Combiner<L> {
         unreachable!()
     }
 
-    /// A port that is noted as parked sleeps until it is answered, or called: then it takes the lock.
+    /// Parks a port that is noted as parked until it is answered. If it is summoned instead, it
+    /// takes the lock.
     fn park<R: Wait>(&self, rt: &R, record: &PublicationRecord<L>) -> Option<Held<'_, L>> {
         self.falls_asleep();
         record.park(rt);
@@ -56,7 +58,8 @@ impl<L: Entries> Combiner<L> {
         Some(self.enter(rt))
     }
 
-    /// A port whose wait is published or registered waits for the answer. It may have the lock.
+    /// Waits for the answer of a port whose wait is published or registered, and which may hold the
+    /// lock.
     fn await_answer<'a, R: Wait + Clock, G: Gate>(
         &'a self,
         rt: &R,
@@ -102,7 +105,8 @@ impl<L: Entries> Combiner<L> {
         unreachable!()
     }
 
-    /// Waits for one request by the port's record, with its tally in it. The completion, or none where the port has to look itself.
+    /// Waits for one request through the port's record, with its tally in it. Returns the
+    /// completion, or None if the port has to check itself.
     fn wait_published<R: Wait + Clock, G: Gate>(
         &self,
         rt: &R,
@@ -137,7 +141,8 @@ impl<L: Entries> Combiner<L> {
         unreachable!()
     }
 
-    /// Waits until the request isn't Pending, and completes it if it is Done. It is given up only where a last look finds it Pending.
+    /// Waits until the request isn't Pending, and completes it if it is Done. The wait is refused
+    /// only if a last check finds the request Pending.
     pub(crate) fn wait<R: Wait + Clock, G: Gate>(
         &self,
         rt: &R,
@@ -186,7 +191,8 @@ impl<L: Entries> Combiner<L> {
         unreachable!()
     }
 
-    /// A port that has the lock waits for what it awaits of a list, until it is to look.
+    /// Waits, with the lock held at first, for requests of a list, until the port is to check
+    /// again.
     pub(crate) fn wait_listed<'a, R: Wait + Clock, G: Gate>(
         &'a self,
         rt: &R,

@@ -3,10 +3,10 @@ use coll_complete::Request;
 /// What a port waits for.
 #[derive(Clone, Copy)]
 pub enum Awaited<'a> {
-    /// That the request isn't Pending any longer.
+    /// The request is no longer Pending.
     One(&'a Request),
-    /// That one of the requests is Done.
+    /// At least one of the requests is Done.
     Any(&'a [Request]),
-    /// That none of the requests is Pending any longer.
+    /// None of the requests is Pending.
     All(&'a [Request]),
 }

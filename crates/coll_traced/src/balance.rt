@@ -1,4 +1,4 @@
-//! What the entries of a trace say of its ranks when the engine is to be closed.
+//! What a trace says of each rank when the engine is to be closed.
 
 ghost use Rattle.std.specs.Prelude.{◌≡◌, ◌<◌, ◌+◌, ◌^◌, ◌==◌, ◌↔◌, ℕ, IfSome, IsNone, IsTrue, cond, length, slice_index};
 ghost use Rattle.coll_report.specs.Traces.{caller, completes_by};
@@ -9,10 +9,10 @@ use crate::spent::Spent;
 use crate::tally::Entries;
 use coll_report::Entry;
 
-/// How many numbers a rank may have.
+/// How many rank numbers there are.
 const RANKS: usize = 256;
 
-/// The rank whose request the entry makes active, by a post or a start.
+/// Returns the rank whose request the entry activates by a post or a start.
 fn beginner(entry: &Entry) -> Option<u8>
     ensures { (r : ℕ) → is_rank r result ≡ begins_by r (seen entry.now) }
 {
@@ -25,7 +25,7 @@ fn beginner(entry: &Entry) -> Option<u8>
     }
 }
 
-/// The rank whose request the entry completes.
+/// Returns the rank whose request the entry completes.
 fn completer(entry: &Entry) -> Option<u8>
     ensures { (r : ℕ) → is_rank r result ≡ completes_by r (seen entry.now) }
 {
@@ -38,7 +38,7 @@ fn completer(entry: &Entry) -> Option<u8>
     }
 }
 
-/// Counts one more for the rank, if there is one.
+/// Adds one to the rank's count, if there is a rank.
 fn count(counts: &mut [usize; RANKS], rank: Option<u8>)
     requires all { length counts.old ≡ 256 }
     requires few { (r : ℕ) → r < 256 → slice_index counts.old r + 1 < 2 ^ 64 }
@@ -50,7 +50,7 @@ fn count(counts: &mut [usize; RANKS], rank: Option<u8>)
     }
 }
 
-/// How many posts and starts each rank has.
+/// Counts each rank's posts and starts.
 fn count_begun(entries: &[Entry]) -> [usize; RANKS]
     ensures { AreCounts begins_by (trace_seen entries.now) result }
 {
@@ -61,7 +61,7 @@ fn count_begun(entries: &[Entry]) -> [usize; RANKS]
     counts
 }
 
-/// How many completions each rank has.
+/// Counts each rank's completions.
 fn count_completed(entries: &[Entry]) -> [usize; RANKS]
     ensures { AreCounts completes_by (trace_seen entries.now) result }
 {
@@ -72,7 +72,7 @@ fn count_completed(entries: &[Entry]) -> [usize; RANKS]
     counts
 }
 
-/// The lowest of this many ranks that has begun more than it completed. Linear in the trace.
+/// Returns the lowest rank with more posts and starts than completions. Linear in the trace.
 pub(crate) fn first_unbalanced(entries: &[Entry], ranks: u8) -> Option<u8>
     ensures none { IsNone result → (r : ℕ) → r < ranks → IsBalanced r (trace_seen entries.now) }
     ensures some { IfSome result (λ rank. IsBalanced rank (trace_seen entries.now) → ⊥) }
@@ -88,7 +88,7 @@ pub(crate) fn first_unbalanced(entries: &[Entry], ranks: u8) -> Option<u8>
     None
 }
 
-/// How many entries each rank has.
+/// Counts each rank's entries.
 fn count_made(entries: &[Entry]) -> [usize; RANKS]
     ensures { AreCounts (λ rank e. caller e == rank) (trace_seen entries.now) result }
 {
@@ -99,15 +99,15 @@ fn count_made(entries: &[Entry]) -> [usize; RANKS]
     counts
 }
 
-/// Whether it is the end of the rank's port, which made that many entries.
+/// Tells whether `spent` is the end of the rank's port, with `made` entries.
 fn is_end<L: Entries>(spent: &Spent<L>, rank: u8, made: usize) -> bool
     ensures { IsTrue result ↔ (spent.now ≡ (rank, made)) }
 {
     spent.rank() == rank && spent.made() == made as u64
 }
 
-/// Whether these are the ends of one port of each rank, in their order, and each made as many entries as its rank has.
-/// Linear in the trace.
+/// Tells whether `spents` are the ends of one port of each rank, in the order of ranks, each with
+/// as many entries as its rank has in the trace. Linear in the trace.
 pub(crate) fn are_ends<L: Entries>(entries: &[Entry], ranks: u8, spents: &[Spent<L>]) -> bool
     ensures { IsTrue result ↔ (spents.now ≡ ends_of ranks (trace_seen entries.now)) }
 {

@@ -5,7 +5,7 @@ use coll_core::{Config, copied_groups};
 use coll_kinds::Refusal;
 use std::alloc::Global;
 
-/// A copy of the configuration.
+/// Copies a configuration.
 pub(crate) fn copied_config(alloc: Global, config: &Config) -> Result<Config, Refusal>
     ensures config { IfOk result (λ copy. setting_by copy ≡ setting_by config.now) }
     ensures refused { IfErr result (λ why. why ≡ Refusal.NoMemory) }

@@ -1,24 +1,25 @@
-//! An engine's core with the trace of what it accepted, and what ports wait for: what lies under an engine's lock, which knows no
-//! thread. Each call that the core accepts and that changes what callers see appends its entry.
+//! The state under an engine's lock: the core, the trace of the calls that it accepted, and what
+//! each port waits for. Nothing here knows a thread. Each accepted call that callers can see
+//! appends an entry.
 //!
 //! | Module | Has |
 //! |---|---|
-//! | `traced_core` | `TracedCore`, the core with its trace, and the calls on both; `Completed`, a request that it completed for a port |
-//! | `tally` | `Tally`, how many entries are one rank's, and `Entries`, their ledger |
-//! | `trace` | `Trace`, the entries so far, with room for those that they speak for; what shows which entries a call appended: `Receipt`, `Receipts`, and `Appended` for another thread |
-//! | `operation` | `Operation`, a post or a start that one thread leaves to another: a `PostOperation` or a `StartOperation` |
-//! | `awaited` | `Awaited`, what a port waits for |
-//! | `waiting` | `Waiting`, how a port waits |
-//! | `port_wait` | `PortWait`, what one port waits for, with memory for a list |
-//! | `waits` | `Waits`, those of all ports |
-//! | `ranks` | `Ranks`, some of an engine's ranks |
-//! | `prepared` | `Prepared`, the memory of a post, which is taken before the lock |
-//! | `recent` | `Recent`, long bytes that further entries can share |
-//! | `copied_config` | a copy of what an engine is opened with |
-//! | `laws` | that the records of a port's answers aren't true of everything |
+//! | `traced_core` | `TracedCore`: the core with its trace, and the calls on both; `Completed`: a request that was completed for a port |
+//! | `tally` | `Tally`: how many entries are one rank's; `Entries`: the ledger of entries |
+//! | `trace` | `Trace`: the entries so far, with room for those still to come; `Receipt`, `Receipts`, and `Appended` for another thread, which show what a call appended |
+//! | `operation` | `Operation`: a post or a start that one thread leaves to another (`PostOperation`, `StartOperation`) |
+//! | `awaited` | `Awaited`: what a port waits for |
+//! | `waiting` | `Waiting`: how a port waits |
+//! | `port_wait` | `PortWait`: what one port waits for, with memory for a list |
+//! | `waits` | `Waits`: what all ports wait for |
+//! | `ranks` | `Ranks`: a set of ranks |
+//! | `prepared` | `Prepared`: the memory of a post, taken before the lock |
+//! | `recent` | `Recent`: long bytes that later entries may share |
+//! | `copied_config` | a copy of a configuration |
+//! | `laws` | the records of a port's answers aren't true of everything |
 //! | `balance` | what a trace says of its ranks when the engine is to be closed |
-//! | `spent` | `Spent`, what is left of a port |
-//! | `replacement` | `Replacement`, what takes an engine's place when it is closed |
+//! | `spent` | `Spent`: what is left of a finished port |
+//! | `replacement` | `Replacement`: the empty core that takes an engine's place at its close |
 #![tactic(auto)]
 
 mod awaited;

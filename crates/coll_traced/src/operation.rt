@@ -13,10 +13,12 @@ use coll_plans::Plan;
 use coll_report::Entry;
 use std::alloc::Global;
 
-/// How many bytes an operation gives at most: its port compares those of the answer with its own, and with more it waits for the engine.
+/// The most bytes that an operation gives. A port with more waits for the engine itself, because it
+/// compares the bytes of the answer with its own.
 const SHORT: usize = 64;
 
-/// A post or a start that one thread leaves to another. What a post keeps is made by the thread that makes it.
+/// A post or a start that one thread leaves to another. The thread that makes it allocates what the
+/// post keeps.
 #[derive(Drop)]
 pub enum Operation {
     Post(PostOperation),
@@ -24,8 +26,9 @@ pub enum Operation {
 }
 
 impl Operation {
-    /// A post of the offer by `plan`, which is the same as the offer's; none where it gives many bytes, or memory is short. The thread that
-    /// makes the post counts that plan's owners.
+    /// Makes the operation for a post of `offer`. `plan` is a second plan of the same collective,
+    /// whose owners are counted by the thread that makes the post. None if the offer gives many
+    /// bytes or memory is short.
     pub fn post(alloc: Global, comm: u32, plan: Plan, offer: &mut Offer) -> Option<Operation>
         requires { plan ≡ offer.old.plan }
         ensures { offer.new ≡ offer.old }
@@ -37,7 +40,7 @@ impl Operation {
         Some(Operation::Post(operation))
     }
 
-    /// A start with these bytes; none where they are many, or memory is short.
+    /// Makes the operation for a start with these bytes; None if there are many or memory is short.
     pub fn start(alloc: Global, ticket: Ticket, given: &mut Contribution) -> Option<Operation>
         ensures { given.new ≡ given.old }
     {
@@ -48,7 +51,8 @@ impl Operation {
         Some(Operation::Start(operation))
     }
 
-    /// Makes it for the rank, unless that is refused. Returns the ticket, and the entry that was appended.
+    /// Makes the post or start for the rank. Returns the ticket and the appended entry, or None if
+    /// the engine refuses.
     pub fn make<L: Entries>(
         self,
         traced: &mut TracedCore<L>,

@@ -14,11 +14,11 @@ use std::alloc::Global;
 pub(crate) struct PortWait {
     how: Waiting,
     tickets: Vec<Ticket>,
-    /// Whether the port has waited so since it was found that nothing can go on.
+    /// Whether a deadlock was found since the port began this wait.
     is_stalled: bool,
 }
 
-/// Whether the ticket names a request of the rank that can be completed.
+/// Tells whether the ticket names a request of the rank that can be completed.
 pub(crate) fn is_done(core: &Core, rank: u8, ticket: Ticket) -> bool
     ensures { IsTrue result ↔ IsDone core.now rank ticket }
 {
@@ -30,29 +30,29 @@ pub(crate) fn is_done(core: &Core, rank: u8, ticket: Ticket) -> bool
     }
 }
 
-/// Whether the ticket names a request of the rank that is Pending.
+/// Tells whether the ticket names a Pending request of the rank.
 fn is_pending(core: &Core, rank: u8, ticket: Ticket) -> bool
     ensures { IsTrue result → IsPending core.now ticket }
 {
     matches!(core.phase(rank, ticket), Ok(Phase::Pending))
 }
 
-/// Whether one of the tickets names a request of the rank that is Pending.
+/// Tells whether one of the tickets names a Pending request of the rank.
 fn some_is_pending(core: &Core, rank: u8, tickets: &[Ticket]) -> bool
     ensures { IsTrue result → Any (IsPending core.now) tickets.now }
 {
     tickets.iter().any(|ticket| is_pending(core, rank, *ticket))
 }
 
-/// Whether none of the tickets names a request of the rank that can be completed.
+/// Tells whether none of the tickets names a request of the rank that can be completed.
 fn none_is_done(core: &Core, rank: u8, tickets: &[Ticket]) -> bool
     ensures { IsTrue result ↔ All (λ t. IsDone core.now rank t → ⊥) tickets.now }
 {
     tickets.iter().all(|ticket| !is_done(core, rank, *ticket))
 }
 
-/// Puts the tickets of the requests that aren't null in the place of the others, in their order. It takes memory only for
-/// more of them than fit.
+/// Replaces `tickets` by the tickets of the requests that aren't null, in their order. Takes memory
+/// only if they don't fit.
 fn list(tickets: &mut Vec<Ticket>, requests: &[Request]) -> Result<(), Refusal>
     ensures tickets { OnOk result (tickets.new.items ≡ tickets_in requests.now) }
     ensures capacity { vec_capacity tickets.old ≤ vec_capacity tickets.new }
@@ -69,7 +69,7 @@ fn list(tickets: &mut Vec<Ticket>, requests: &[Request]) -> Result<(), Refusal>
 }
 
 impl PortWait {
-    /// For a port that is awake, with memory for this many tickets.
+    /// Makes the record of a port that is awake, with memory for `slots` tickets.
     pub(crate) fn new(alloc: Global, slots: u32) -> Result<Self, Refusal>
         ensures waits { IfOk result (λ port. wait_in port ≡ Awake) }
         ensures unmarked { IfOk result (λ port. port.is_stalled ≡ false) }
@@ -83,7 +83,7 @@ impl PortWait {
         })
     }
 
-    /// Notes that the port waits so, and for none of a list.
+    /// Notes how the port waits, for nothing of a list.
     pub(crate) fn put(&mut self, how: Waiting)
         ensures how { self.new.how ≡ how }
         ensures tickets { self.new.tickets.items ≡ [] }
@@ -95,7 +95,8 @@ impl PortWait {
         self.tickets.clear();
     }
 
-    /// Notes that the port of the rank waits until one of the requests is Done. Where that can't be noted the port is awake.
+    /// Notes that the rank's port waits until one of the requests is Done. If that can't be noted,
+    /// the port is awake.
     pub(crate) fn put_list(&mut self, rank: u8, requests: &[Request]) -> Result<(), Refusal>
         ensures how { OnOk result (self.new.how ≡ Waiting.ForAny rank) }
         ensures tickets { OnOk result (self.new.tickets.items ≡ tickets_in requests.now) }
@@ -112,7 +113,7 @@ impl PortWait {
         Ok(())
     }
 
-    /// Whether the port is blocked in a wait, or has ended.
+    /// Tells whether the port is blocked in a wait, or has ended.
     pub(crate) fn is_blocked(&self, core: &Core) -> bool
         ensures { IsTrue result ↔ IsBlocked core.now (wait_in self.now) }
     {
@@ -124,7 +125,7 @@ impl PortWait {
         }
     }
 
-    /// Whether the port waits for a request that is Pending.
+    /// Tells whether the port waits for a Pending request.
     fn is_held_up(&self, core: &Core) -> bool
         ensures { IsTrue result → IsHeldUp core.now (wait_in self.now) }
     {
@@ -136,7 +137,7 @@ impl PortWait {
         }
     }
 
-    /// Marks the port as stalled, if it waits for a request that is Pending.
+    /// Marks the port as deadlocked, if it waits for a Pending request.
     pub(crate) fn mark(&mut self, core: &Core)
         ensures wait { wait_in self.new ≡ wait_in self.old }
         ensures mark { IsRightlyMarked core.now self.new }
@@ -145,14 +146,14 @@ impl PortWait {
         self.is_stalled = self.is_held_up(core);
     }
 
-    /// Whether it is marked as stalled, and hasn't changed since.
+    /// Tells whether the port is marked as deadlocked, and waits for the same since.
     pub(crate) fn is_marked(&self) -> bool
         ensures { result ≡ mark_in self.now }
     {
         self.is_stalled
     }
 
-    /// The request that the port waits for, if it waits for just one.
+    /// Returns the request that the port waits for, if it waits for exactly one.
     pub(crate) fn one(&self) -> Option<Ticket>
         ensures { result ≡ one_by (Some (wait_in self.now)) }
     {

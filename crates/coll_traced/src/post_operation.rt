@@ -24,16 +24,17 @@ use std::sync::Arc;
 pub struct PostOperation {
     comm: u32,
     offer: Offer,
-    /// A second owner of what is given, for the entry that comes back.
+    /// A second owner of the contribution, for the entry that comes back.
     bytes: Bytes,
-    /// The plan's signature, for that entry.
+    /// The plan's signature, for the same entry.
     sig: Arc<Signature>,
     ghost shared: { bytes ≡ offer.bytes },
     ghost signed: { arc_value sig ≡ offer.plan.sig },
 }
 
 impl PostOperation {
-    /// Of an offer, whose bytes and signature it shares, and another plan of the same; none where memory is short.
+    /// Makes the operation from an offer, whose bytes and signature it shares, and a second plan of
+    /// the same collective. None if memory is short.
     pub(crate) fn of(alloc: Global, comm: u32, plan: Plan, own: &mut Offer) -> Option<PostOperation>
         requires few { length own.old.bytes < 2 ^ 32 }
         requires same { plan ≡ own.old.plan }
@@ -54,7 +55,7 @@ impl PostOperation {
         })
     }
 
-    /// Makes the post with what it keeps, unless that is refused. Returns its ticket and its entry.
+    /// Makes the post. Returns its ticket and entry, or None if the engine refuses.
     pub(crate) fn make<L: Entries>(
         self,
         traced: &mut TracedCore<L>,
@@ -93,7 +94,7 @@ impl PostOperation {
     }
 }
 
-/// The ticket of the request that a post of just these made, where the entry is of that.
+/// Returns the ticket in an entry, if the entry is of a post with exactly these arguments.
 pub fn posted_in(entry: &Entry, of: u8, on: u32, with: &Signature, given: &[u8]) -> Option<Ticket>
     ensures found { IfSome result (λ ticket. IsPosted of (Some ticket) on with.now given.now (seen entry.now)) }
     ensures none { IsNone result → (ticket : Named) → IsPosted of (Some ticket) on with.now given.now (seen entry.now) → ⊥ }

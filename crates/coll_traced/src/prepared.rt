@@ -6,14 +6,16 @@ use coll_core::{Buffer, Contribution, Offer};
 use coll_kinds::Refusal;
 use std::alloc::Global;
 
-/// What a post keeps: a second owner of what it gives, for the trace, and the schedule's buffer with that laid in.
+/// The memory of a post: a second owner of the contribution, for the trace, and the schedule's
+/// buffer with the contribution in it.
 #[derive(Drop)]
 pub struct Prepared {
     pub(crate) bytes: Bytes,
     pub(crate) laid: Buffer,
 }
 
-/// A second owner of what is given, for the trace. More than any collective takes has none.
+/// Returns a second owner of the contribution, for the trace. A contribution longer than any
+/// collective takes has none.
 pub(crate) fn shared(alloc: Global, given: &mut Contribution) -> Result<Bytes, Refusal>
     ensures shared { IfOk result (λ bytes. length given.old < 2 ^ 32 → bytes ≡ given.old) }
     ensures refused { IfErr result (λ why. why ≡ Refusal.NoMemory) }
@@ -26,7 +28,7 @@ pub(crate) fn shared(alloc: Global, given: &mut Contribution) -> Result<Bytes, R
 }
 
 impl Prepared {
-    /// For a post. It is made before the lock is taken.
+    /// Takes a post's memory, before the lock is taken.
     #[inline(always)]
     pub fn of(alloc: Global, offer: &mut Offer) -> Result<Prepared, Refusal>
         ensures prepared { IfOk result (IsPreparedFor offer.old) }

@@ -1,8 +1,8 @@
-/// Some of an engine's ranks, of which there are 64 at most: a bit for each.
+/// A set of an engine's ranks, of which there are at most 64: one bit for each.
 #[derive(Clone, Copy, Debug, PartialEq, Eq)]
 pub struct Ranks(u64);
 
-/// The bit of a rank.
+/// Returns the bit of a rank.
 fn bit(rank: u8) -> u64 {
     1u64.wrapping_shl(u32::from(rank))
 }
@@ -14,17 +14,17 @@ impl Ranks {
         self.0 & bit(rank) != 0
     }
 
-    /// These and the rank.
+    /// Adds a rank.
     pub fn with(self, rank: u8) -> Ranks {
         Ranks(self.0 | bit(rank))
     }
 
-    /// These but the rank.
+    /// Removes a rank.
     pub fn without(self, rank: u8) -> Ranks {
         Ranks(self.0 & !bit(rank))
     }
 
-    /// These with the rank or without it.
+    /// Adds a rank if `has`, else removes it.
     pub fn set(self, rank: u8, has: bool) -> Ranks {
         if has {
             self.with(rank)
@@ -33,7 +33,7 @@ impl Ranks {
         }
     }
 
-    /// These but the others.
+    /// Removes the ranks of `others`.
     pub fn but(self, others: Ranks) -> Ranks {
         Ranks(self.0 & !others.0)
     }
@@ -42,7 +42,7 @@ impl Ranks {
         self.0 == 0
     }
 
-    /// The lowest of them.
+    /// Returns the lowest rank of the set.
     pub fn lowest(self) -> Option<u8> {
         if self.is_empty() {
             return None;
@@ -50,12 +50,12 @@ impl Ranks {
         Some(self.0.trailing_zeros() as u8)
     }
 
-    /// As bits.
+    /// Returns the set as bits.
     pub fn bits(self) -> u64 {
         self.0
     }
 
-    /// Of bits.
+    /// Makes a set of bits.
     pub fn of_bits(bits: u64) -> Ranks {
         Ranks(bits)
     }

@@ -3,19 +3,21 @@ ghost use Rattle.std.specs.Prelude.{◌≡◌, IfSome};
 use coll_bytes::{Bytes, FEW};
 use coll_ops::are_same;
 
-/// The owners of a block that no earlier entry of the trace has: the caller that completes the request, and the entry of that.
+/// The number of owners of a block that no earlier entry has: the caller that completes the
+/// request, and the entry of that completion.
 const OWN: usize = 2;
 
-/// The last bytes of the trace that entries can share. An outcome of the same bytes shares them, so that the trace keeps them once:
-/// all members of an allgather get the same bytes, each in memory of its own. Where others own the outcome's block, as the root of a bcast and
-/// the members of an allreduce do, the trace keeps it once anyway, and the bytes aren't compared.
+/// The last bytes of the trace that later entries may share. All members of an allgather get the
+/// same bytes, each in memory of its own, so the trace keeps one copy by comparing them. An outcome
+/// whose block already has other owners isn't compared, since the trace keeps it once anyway: the
+/// root of a bcast and the members of an allreduce share blocks.
 #[derive(Drop)]
 pub(crate) struct Recent {
     bytes: Option<Bytes>,
 }
 
 impl Recent {
-    /// For a trace without entries.
+    /// Returns the record for an empty trace.
     pub(crate) fn new() -> Self {
         Recent { bytes: None }
     }
@@ -28,7 +30,7 @@ impl Recent {
         }
     }
 
-    /// The kept bytes, where they equal the outcome's and lie in another block.
+    /// Returns the kept bytes, if they equal the outcome's and lie in another block.
     fn find(&self, outcome: &Bytes) -> Option<Bytes>
         ensures { IfSome result (λ bytes. bytes ≡ outcome.now) }
     {
@@ -41,8 +43,8 @@ impl Recent {
         bytes.share_counted()
     }
 
-    /// An outcome's bytes for the trace: the kept ones where they are the same, else the outcome's own. Takes no memory. A few have none
-    /// to share.
+    /// Returns an outcome's bytes for the trace: the kept ones if they are equal, else the
+    /// outcome's own. Takes no memory. Bytes in place have no block to share.
     #[inline(always)]
     pub(crate) fn outcome(&mut self, outcome: Bytes) -> Bytes
         ensures { result ≡ outcome }
@@ -53,7 +55,7 @@ impl Recent {
         self.long_outcome(outcome)
     }
 
-    /// The same of more bytes.
+    /// `outcome` for more than a few bytes.
     fn long_outcome(&mut self, outcome: Bytes) -> Bytes
         ensures { result ≡ outcome }
     {

@@ -7,8 +7,8 @@ use coll_kinds::Refusal;
 use std::alloc::Global;
 use std::marker::Model;
 
-/// What takes an engine's place when it is closed, so that closing takes no memory: a core of the same setting without requests.
-/// Contracts see that setting.
+/// An empty core of the same setting, which takes an engine's place when the engine is closed, so
+/// that closing takes no memory. Contracts see the setting.
 #[derive(Drop)]
 pub struct Replacement {
     pub(crate) config: Config,
@@ -29,7 +29,8 @@ impl Model for Replacement {
 }
 
 impl Replacement {
-    /// For an engine of that configuration. It takes as much memory as a core without requests.
+    /// Opens the replacement for an engine of this configuration. Takes as much memory as a core
+    /// without requests.
     ///
     /// # Errors
     ///

@@ -4,7 +4,7 @@ use crate::tally::{Entries, Tally};
 use std::marker::Model;
 use std::sync::ledger::Share;
 
-/// What is left of a port that was finished. Contracts see its rank and how many entries it made.
+/// What is left of a finished port. Contracts see its rank and how many entries it made.
 #[derive(Drop)]
 pub struct Spent<L: Entries> {
     rank: u8,
@@ -20,14 +20,14 @@ impl<L: Entries> Model for Spent<L> {
 }
 
 impl<L: Entries> Spent<L> {
-    /// Of a port with that rank and tally.
+    /// Makes the end of a port from its rank and tally.
     pub fn new(rank: u8, tally: Tally<L>) -> Self
         ensures { result ≡ (rank, tally) }
     {
         Spent { rank, tally }
     }
 
-    /// The port's part of the ledger of entries.
+    /// Returns the port's part of the ledger.
     pub fn into_share(self) -> Share<L>
         ensures parts { result.parts ≡ 1 }
         ensures amount { result.amount ≡ self.1 }
@@ -36,14 +36,14 @@ impl<L: Entries> Spent<L> {
         tally.into_share()
     }
 
-    /// The port's world rank.
+    /// Returns the port's world rank.
     pub fn rank(&self) -> u8
         ensures { result ≡ self.now.0 }
     {
         self.rank
     }
 
-    /// How many entries of the trace are the port's.
+    /// Returns how many entries of the trace are the port's.
     pub fn made(&self) -> u64
         ensures { result ≡ self.now.1 }
     {

@@ -19,13 +19,13 @@ use std::alloc::Global;
 pub struct StartOperation {
     ticket: Ticket,
     given: Contribution,
-    /// A second owner of what is given, for the entry that comes back.
+    /// A second owner of the contribution, for the entry that comes back.
     bytes: Bytes,
     ghost shared: { bytes ≡ given },
 }
 
 impl StartOperation {
-    /// With these bytes, which it shares; none where memory is short.
+    /// Makes the operation for a start with these bytes, which it shares. None if memory is short.
     pub(crate) fn of(
         alloc: Global,
         ticket: Ticket,
@@ -43,7 +43,7 @@ impl StartOperation {
         })
     }
 
-    /// Makes the start, unless that is refused. Returns its ticket and its entry.
+    /// Makes the start. Returns its ticket and entry, or None if the engine refuses.
     pub(crate) fn make<L: Entries>(
         self,
         traced: &mut TracedCore<L>,
@@ -79,7 +79,7 @@ impl StartOperation {
     }
 }
 
-/// Whether the entry is of a start of the request with just these bytes.
+/// Tells whether the entry is of a start of the request with exactly these bytes.
 pub fn started_in(entry: &Entry, of: u8, request: Ticket, given: &[u8]) -> bool
     ensures { IsTrue result ↔ IsStarted of (Some request) given.now (seen entry.now) }
 {

@@ -1,16 +1,16 @@
-//! The ledger of the trace's entries, and a rank's count of its own.
+//! The ledger of the trace's entries, and each rank's count of its own.
 
 ghost use Rattle.std.specs.Prelude.{◌≡◌, ◌+◌, ◌<◌, ◌≤◌, ◌^◌, ℕ};
 
 use std::marker::{Brand, Model};
 use std::sync::ledger::{Blank, Book, Ledger, Share};
 
-/// The ledger of an engine's entries, in one part for each rank. Its type names the engine: what the calls on it return is of a state of
-/// an engine in just this setting.
+/// The ledger of an engine's entries, in one part for each rank. The type names the engine: what
+/// calls with it return belongs to a state of an engine with exactly this setting.
 pub trait Entries: Ledger {
     ghost use Rattle.coll_machine.specs.Settings.{Setting};
 
-    /// What the engine was opened with.
+    /// The setting with which the engine was opened.
     ghost setting: { Setting };
 }
 
@@ -20,14 +20,15 @@ impl Entries for Brand {
     ghost setting = { record { ranks = 0; groups = []; slots = 0; places = 0; wear = 0; starts = 0; trace = 0 } };
 }
 
-/// A new ledger for the entries of an engine with this many ranks.
+/// Makes a ledger for an engine with this many ranks.
 pub fn ledger_for(ranks: u8) -> Blank
     ensures { result.parts ≡ ranks }
 {
     Blank::new(u64::from(ranks))
 }
 
-/// How many entries of the trace are one rank's. Contracts see it as that number, and all tallies add up to the length of the trace.
+/// How many entries of the trace are one rank's. All tallies add up to the length of the trace.
+/// Contracts see the number.
 #[derive(Drop)]
 pub struct Tally<L: Entries> {
     share: Share<L>,
@@ -43,7 +44,7 @@ impl<L: Entries> Model for Tally<L> {
 }
 
 impl<L: Entries> Tally<L> {
-    /// Of a rank that has none.
+    /// Makes the tally of a rank without entries.
     pub fn new(share: Share<L>) -> Self
         requires { (share.parts ≡ 1) × (share.amount ≡ 0) }
         ensures { result ≡ 0 }
@@ -51,14 +52,14 @@ impl<L: Entries> Tally<L> {
         Tally { share, made: 0 }
     }
 
-    /// How many entries there are.
+    /// Returns the number of entries.
     pub fn made(&self) -> u64
         ensures { result ≡ self.now }
     {
         self.made
     }
 
-    /// The rank's part of the ledger.
+    /// Returns the rank's part of the ledger.
     pub fn into_share(self) -> Share<L>
         ensures parts { result.parts ≡ 1 }
         ensures amount { result.amount ≡ self }
@@ -67,7 +68,7 @@ impl<L: Entries> Tally<L> {
         share
     }
 
-    /// There are at least as many entries. It does nothing at run time.
+    /// Shows that the trace has at least as many entries. Does nothing at run time.
     pub(crate) fn audit(&mut self, book: &mut Book<L>)
         ensures made { self.new ≡ self.old }
         ensures total { book.new.total ≡ book.old.total }
@@ -76,7 +77,7 @@ impl<L: Entries> Tally<L> {
         book.audit(&mut self.share);
     }
 
-    /// One entry more.
+    /// Counts one more entry.
     pub(crate) fn count(&mut self, book: &mut Book<L>)
         requires { book.old.total + 1 < 2 ^ 64 }
         ensures made { self.new ≡ self.old + 1 }

@@ -1,4 +1,4 @@
-//! The trace of what a core accepted, and what shows its entries.
+//! The trace of the calls that a core accepted, and the receipts of its entries.
 
 mod appended;
 mod receipt;
@@ -24,7 +24,7 @@ use std::mem;
 use std::snapshot::Snapshot;
 use std::sync::ledger::{Book, Share};
 
-/// The entries so far, with memory for those that they speak for.
+/// The entries so far, with memory for the completions and frees still to come.
 #[derive(Drop)]
 pub(crate) struct Trace<L: Entries> {
     entries: Vec<Entry>,
@@ -44,7 +44,7 @@ impl<L: Entries> Model for Trace<L> {
     ghost invariant = { λ t. IsRecorded (record { entries = trace_seen t.entries.items; reserved = t.reserved; capacity = vec_capacity t.entries }) t.book.total };
 }
 
-/// Which of its kind the entry names.
+/// Returns the entry's place on its communicator; of a start, the number of the start.
 fn place(entry: &Entry) -> u32
     ensures { result ≡ place_in (seen entry.now) }
 {
@@ -58,7 +58,7 @@ fn place(entry: &Entry) -> u32
 }
 
 impl<L: Entries> Trace<L> {
-    /// A trace without entries.
+    /// Makes an empty trace.
     pub(crate) fn new(alloc: Global, book: Book<L>) -> Self
         requires { book.total ≡ 0 }
         ensures entries { result.entries ≡ [] }
@@ -71,7 +71,8 @@ impl<L: Entries> Trace<L> {
         }
     }
 
-    /// It has at least the entries that the tally counts. It does nothing at run time.
+    /// Shows that the trace has at least the entries that the tally counts. Does nothing at run
+    /// time.
     pub(crate) fn audit(&mut self, mine: &mut Tally<L>)
         ensures same { self.new ≡ self.old }
         ensures made { mine.new ≡ mine.old }
@@ -81,7 +82,8 @@ impl<L: Entries> Trace<L> {
         mine.audit(book);
     }
 
-    /// Makes memory for an entry and the one that it speaks for: TraceFull where these would pass the limit, then NoMemory.
+    /// Makes memory for an entry and for the one reserved by it. Refuses TraceFull if they would
+    /// pass the limit, then NoMemory.
     pub(crate) fn make_room(&mut self, limit: u32) -> Result<(), Refusal>
         requires { length self.old.entries + self.old.reserved ≤ limit }
         ensures entries { self.new.entries ≡ self.old.entries }
@@ -99,7 +101,7 @@ impl<L: Entries> Trace<L> {
         Ok(())
     }
 
-    /// Appends an entry that speaks for one more.
+    /// Appends an entry that reserves one more.
     pub(crate) fn begin(&mut self, mine: &mut Tally<L>, entry: Entry) -> Receipt
         requires { length self.old.entries + self.old.reserved + 2 ≤ self.old.capacity }
         ensures entries { self.new.entries ≡ self.old.entries ++ seen entry ∷ [] }
@@ -115,7 +117,7 @@ impl<L: Entries> Trace<L> {
         receipt
     }
 
-    /// Appends an entry that was spoken for.
+    /// Appends an entry whose room was reserved.
     pub(crate) fn end(&mut self, mine: &mut Tally<L>, entry: Entry) -> Receipt
         requires { 0 < self.old.reserved }
         ensures entries { self.new.entries ≡ self.old.entries ++ seen entry ∷ [] }
@@ -131,7 +133,7 @@ impl<L: Entries> Trace<L> {
         receipt
     }
 
-    /// Which of its kind the last entry names.
+    /// Returns the last entry's place on its communicator; of a start, the number of the start.
     pub(crate) fn last_place(&self) -> u32
         ensures { NamesLast self.now.entries result }
     {
@@ -141,7 +143,7 @@ impl<L: Entries> Trace<L> {
         }
     }
 
-    /// A copy of the last entry.
+    /// Returns a copy of the last entry.
     pub(crate) fn last(&self, copy: Entry) -> Appended
         requires { IsLast self.now.entries (seen copy) }
         ensures { result ≡ seen copy }
@@ -149,21 +151,21 @@ impl<L: Entries> Trace<L> {
         Appended::of(copy)
     }
 
-    /// The entries as they are now, for receipts.
+    /// Takes a snapshot of the entries, for receipts.
     pub(crate) fn moment(&self) -> Snapshot<Vec<Entry>>
         ensures { trace_seen result.value.items ≡ self.now.entries }
     {
         Snapshot::of(&self.entries)
     }
 
-    /// What was appended since then.
+    /// Returns what was appended since the snapshot.
     pub(crate) fn since(&self, before: Snapshot<Vec<Entry>>) -> Receipts
         ensures { result ≡ drop (length (trace_seen before.value.items)) self.now.entries }
     {
         Receipts::between(before, self.moment())
     }
 
-    /// The lowest of this many ranks that has begun more than it completed.
+    /// Returns the lowest rank with more posts and starts than completions.
     pub(crate) fn first_unbalanced(&self, ranks: u8) -> Option<u8>
         ensures none { IsNone result → (r : ℕ) → r < ranks → IsBalanced r self.now.entries }
         ensures some { IfSome result (λ rank. IsBalanced rank self.now.entries → ⊥) }
@@ -172,14 +174,15 @@ impl<L: Entries> Trace<L> {
         first_unbalanced(&self.entries, ranks)
     }
 
-    /// Whether these are the ends of one port of each rank, in their order, and each made as many entries as its rank has.
+    /// Tells whether `ends` are the ends of one port of each rank, in the order of ranks, each with
+    /// as many entries as its rank has.
     pub(crate) fn has_ends(&self, ranks: u8, ends: &[Spent<L>]) -> bool
         ensures { IsTrue result ↔ (ends.now ≡ ends_of ranks self.now.entries) }
     {
         are_ends(&self.entries, ranks, ends)
     }
 
-    /// Takes all entries, where all shares came back, and leaves none.
+    /// Takes all entries, once all shares of the ledger came back, and leaves an empty trace.
     pub(crate) fn take(&mut self, alloc: Global, all: &mut Share<L>) -> Vec<Entry>
         requires { all.old.parts ≡ L.parts }
         ensures entries { trace_seen result.items ≡ self.old.entries }

@@ -1,4 +1,4 @@
-//! A core with its trace, and the questions on both.
+//! A core with its trace, and queries on both.
 
 mod closing;
 mod completed;
@@ -36,8 +36,9 @@ use std::alloc::Global;
 use std::marker::Model;
 use std::sync::ledger::Book;
 
-/// A core, the trace of what it accepted, and what each rank's port waits for. Each call that the core accepts and that changes what
-/// callers see appends its entry, so the trace is legal and leads to the core's state. Its setting is that of its ledger's type.
+/// A core, the trace of what it accepted, and what each rank's port waits for. Each accepted call
+/// that callers can see appends its entry, so the trace is legal and leads to the core's state. The
+/// setting is that of the ledger's type.
 #[derive(Drop)]
 pub struct TracedCore<L: Entries> {
     alloc: Global,
@@ -59,7 +60,7 @@ impl<L: Entries> Model for TracedCore<L> {
     ghost invariant = { λ s. IsKept L.setting s.config s.core s.trace.entries s.trace.reserved × AreTold L.setting s.waits.waits s.waits.marks };
 }
 
-/// What a ticket names that the core just accepted.
+/// Returns what a ticket's request is, after the core accepted it.
 fn live(core: &Core, ticket: Ticket) -> About
     requires { is_some (found (seen core.now).state ticket) ≡ true }
     ensures { about_in (seen core.now) ticket ≡ Some result }
@@ -71,8 +72,8 @@ fn live(core: &Core, ticket: Ticket) -> About
 }
 
 impl<L: Entries> TracedCore<L> {
-    /// An engine without requests, and an empty trace. All memory to note what ports wait for is taken here: eight bytes for each slot
-    /// at each rank.
+    /// Opens an engine without requests and with an empty trace. Takes all memory for notes on what
+    /// ports wait for: eight bytes for each slot at each rank.
     ///
     /// # Errors
     ///
@@ -101,12 +102,13 @@ impl<L: Entries> TracedCore<L> {
         })
     }
 
-    /// Where its memory comes from.
+    /// Returns where the engine's memory comes from.
     pub(crate) fn alloc(&self) -> Global {
         self.alloc
     }
 
-    /// Its setting is that of its ledger's type, and its trace is legal, for proofs of callers. It does nothing at run time.
+    /// Shows that the setting is that of the ledger's type and the trace is legal, for callers'
+    /// proofs. Does nothing at run time.
     pub fn keeps_legal(&self)
         ensures setting { setting self.now.core ≡ L.setting }
         ensures legal { LegalTrace L.setting self.now.entries (seen self.now.core).state }
@@ -114,8 +116,8 @@ impl<L: Entries> TracedCore<L> {
         let _config = &self.config;
     }
 
-    /// What the laws of `coll_core` say of its core, and that its communicators are groups, for proofs of callers. It does nothing at run
-    /// time.
+    /// Shows what the laws of `coll_core` say of the core, and that its communicators are groups,
+    /// for callers' proofs. Does nothing at run time.
     pub fn knows_core(&self)
         ensures between { BetweenCalls self.now.core }
         ensures free { FreeLock (tables self.now.core) }
@@ -128,8 +130,8 @@ impl<L: Entries> TracedCore<L> {
         done_once_heard(&self.core);
     }
 
-    /// It is at a moment of its engine at which the caller had made no more entries than there were, for proofs of callers. It does
-    /// nothing at run time.
+    /// Shows that this state belongs to a moment of the engine at which the trace had at least the
+    /// caller's entries, for callers' proofs. Does nothing at run time.
     pub fn audit(&mut self, mine: &mut Tally<L>)
         ensures same { self.new ≡ self.old }
         ensures tally { mine.new ≡ mine.old }

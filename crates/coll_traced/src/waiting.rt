@@ -5,16 +5,16 @@ use coll_kinds::Ticket;
 pub(crate) enum Waiting {
     /// Not at all: it can make calls.
     Awake,
-    /// Until the request of the rank is Done.
+    /// Until the rank's request is Done.
     ForOne { rank: u8, ticket: Ticket },
-    /// Until one of the requests of the rank is Done that are listed beside.
+    /// Until one of the rank's requests in the list beside is Done.
     ForAny { rank: u8 },
     /// It has ended.
     Ended,
 }
 
 impl Waiting {
-    /// Whether the port waits for a request.
+    /// Tells whether the port waits for a request.
     pub(crate) fn is_for_some(self) -> bool {
         matches!(self, Waiting::ForOne { .. } | Waiting::ForAny { .. })
     }

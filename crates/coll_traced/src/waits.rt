@@ -14,8 +14,8 @@ use coll_kinds::{Refusal, Ticket};
 use std::alloc::Global;
 use std::marker::Model;
 
-/// What each port waits for, by rank. All memory is taken at `open`: a list of distinct requests has no more tickets than the
-/// engine has slots, so to note one takes none.
+/// What each port waits for, by rank. All memory is taken at `open`, because a list of distinct
+/// requests has no more tickets than the engine has slots. So noting such a list takes none.
 #[derive(Drop)]
 pub(crate) struct Waits {
     slots: u32,
@@ -35,14 +35,14 @@ impl Model for Waits {
     ghost invariant = { λ n. All (IsRoomy n.slots) n.ports.items };
 }
 
-/// Whether each of these ports is blocked in a wait, or has ended.
+/// Tells whether each of these ports is blocked in a wait, or has ended.
 fn all_are_blocked(ports: &[PortWait], core: &Core) -> bool
     ensures { IsTrue result ↔ All (λ port. IsBlocked core.now (wait_in port)) ports.now }
 {
     ports.iter().all(|port| port.is_blocked(core))
 }
 
-/// Marks each of these ports as stalled that waits for a request that is Pending, and none of the others.
+/// Marks each of these ports as deadlocked that waits for a Pending request, and no other.
 fn mark_each(ports: &mut [PortWait], core: &Core)
     ensures waits { map wait_in ports.new ≡ map wait_in ports.old }
     ensures marks { All (IsRightlyMarked core.now) ports.new }
@@ -54,7 +54,7 @@ fn mark_each(ports: &mut [PortWait], core: &Core)
 }
 
 impl Waits {
-    /// For this many ports, all awake, on an engine with this many slots.
+    /// Makes the record of `ranks` ports, all awake, on an engine with `slots` slots.
     pub(crate) fn open(alloc: Global, ranks: u8, slots: u32) -> Result<Self, Refusal>
         ensures waits { IfOk result (λ new. new.waits ≡ replicate ranks Awake) }
         ensures marks { IfOk result (λ new. new.marks ≡ replicate ranks false) }
@@ -72,7 +72,7 @@ impl Waits {
         })
     }
 
-    /// Notes how a port waits that doesn't wait for a list. A number that is no rank is left out.
+    /// Notes how a port waits that doesn't wait for a list. Ignores a number that is no rank.
     pub(crate) fn put(&mut self, rank: u8, how: Waiting)
         ensures waits { self.new.waits ≡ slice_set self.old.waits rank (wait_of how []) }
         ensures marks { self.new.marks ≡ slice_set self.old.marks rank false }
@@ -84,11 +84,12 @@ impl Waits {
         }
     }
 
-    /// Notes that a port waits until one of the requests is Done. Where that can't be noted the port is awake.
+    /// Notes that a port waits until one of the requests is Done. If that can't be noted, the port
+    /// is awake.
     ///
     /// # Errors
     ///
-    /// NoMemory, for a list of more tickets than the engine has slots.
+    /// NoMemory, for a list with more tickets than the engine has slots.
     pub(crate) fn put_list(&mut self, rank: u8, requests: &[Request]) -> Result<(), Refusal>
         ensures waits { OnOk result (self.new.waits ≡ slice_set self.old.waits rank (ForAny rank (tickets_in requests.now))) }
         ensures marks { self.new.marks ≡ slice_set self.old.marks rank false }
@@ -105,16 +106,16 @@ impl Waits {
         Ok(())
     }
 
-    /// Whether each port is blocked in a wait, or has ended. Linear in the ports up to the first that doesn't, and in what
-    /// they wait for.
+    /// Tells whether each port is blocked in a wait, or has ended. Linear in the ports up to the
+    /// first that isn't, and in what they wait for.
     pub(crate) fn all_are_blocked(&self, core: &Core) -> bool
         ensures { IsTrue result ↔ All (IsBlocked core.now) self.now.waits }
     {
         all_are_blocked(&self.ports, core)
     }
 
-    /// Marks the ports that wait for a request that is Pending as stalled, for as long as they wait so. Linear in the ports, and in what they
-    /// wait for.
+    /// Marks the ports that wait for a Pending request as deadlocked, for as long as they wait for
+    /// it. Linear in the ports, and in what they wait for.
     pub(crate) fn mark_waiting(&mut self, core: &Core)
         ensures waits { self.new.waits ≡ self.old.waits }
         ensures marks { AreHeldUp core.now self.new.waits self.new.marks }
@@ -123,12 +124,12 @@ impl Waits {
         mark_each(&mut self.ports, core);
     }
 
-    /// Whether a port is marked as stalled, and has waited since. Linear in the ports.
+    /// Tells whether some port is marked as deadlocked and has waited since. Linear in the ports.
     pub(crate) fn some_is_marked(&self) -> bool {
         self.ports.iter().any(|port| port.is_marked())
     }
 
-    /// Whether the port is marked as stalled, and has waited since.
+    /// Tells whether the port is marked as deadlocked and has waited since.
     pub(crate) fn is_marked(&self, rank: u8) -> bool
         ensures { IsTrue result → IsMarked self.now.waits self.now.marks rank }
     {
@@ -138,7 +139,7 @@ impl Waits {
         }
     }
 
-    /// The ranks whose wait is over. Linear in the ports, and in what the waiting ones wait for.
+    /// Returns the ranks whose wait is over. Linear in the ports, and in what they wait for.
     pub(crate) fn met(&self, core: &Core) -> Ranks {
         let mut met = Ranks::NONE;
         for (rank, port) in (0..64u8).zip(self.ports.iter()) {
@@ -149,14 +150,14 @@ impl Waits {
         met
     }
 
-    /// The request that a port waits for, if it waits for just one.
+    /// Returns the request that a port waits for, if it waits for exactly one.
     pub(crate) fn one_of(&self, rank: u8) -> Option<Ticket>
         ensures { result ≡ one_in self.now.waits rank }
     {
         self.ports.get(usize::from(rank))?.one()
     }
 
-    /// The ranks whose ports wait for requests.
+    /// Returns the ranks whose ports wait for requests.
     pub(crate) fn waiting(&self) -> Ranks {
         self.waiting
     }

@@ -1,4 +1,4 @@
-//! Combinations that are computed outside.
+//! Combinations that are computed outside the engine.
 
 ghost use Rattle.std.specs.Prelude.{◌≡◌, ◌↔◌, [], IfErr, IfNone, IfOk, IfSome, IsOkUnless, IsTrue, OnErr, OnOk, if◌then◌else◌, is_ok};
 ghost use Rattle.coll_core.specs.declared.stepped.Stepped.{Stepped as How};
@@ -14,8 +14,9 @@ use coll_core::{DoneWork, Stepped};
 use coll_kinds::Refusal;
 
 impl Engine {
-    /// Makes actions until one is a combination, and hands that out; none where no action can be made any more. The
-    /// combination's request goes on once it is taken back. So long a step and a settling go past it.
+    /// Carries out actions until the next one is a combination, and hands that out; None if no
+    /// action can be carried out any more. The combination's request goes on once the combination
+    /// is taken back. Until then steps and settling pass it by.
     ///
     /// # Errors
     ///
@@ -47,13 +48,14 @@ impl Engine {
         self.core.step()
     }
 
-    /// Takes a combination back. Where it was computed its request goes on with the result; else its request is the first
-    /// that is ready, and the combination is handed out, or computed, again.
+    /// Takes a combination back. If it was computed, its request goes on with the result. If not,
+    /// its request becomes the first ready one, and the combination is handed out, or computed,
+    /// again.
     ///
     /// # Errors
     ///
-    /// Stale, with nothing changed, unless it is one that this engine handed out and didn't take back, or another engine's of the same action
-    /// and operands. The combination is gone.
+    /// Stale, with nothing changed, unless this engine handed the combination out and didn't take it
+    /// back, or another engine's has the same action and operands. The combination is dropped.
     pub fn take_back(&mut self, combination: Combination) -> Result<(), Refusal>
         ensures out { IsOutside self.old (piece_of combination) → IsTrue (is_ok result) }
         ensures due { IsTrue (is_due combination) → IsTrue (is_ok result) → IsOutside self.old (piece_of combination) }

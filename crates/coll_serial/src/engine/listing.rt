@@ -16,13 +16,15 @@ use crate::test::Test;
 use coll_kinds::Refusal;
 
 impl Engine {
-    /// Completes the lowest request of a list that is Done (`MPI_Testany`; MPI 4.1, 3.7.5): its outcome stands at the front of its
-    /// span of `out` then, and a once request is null. Null and Idle requests are inactive. It takes no memory.
+    /// Completes the lowest Done request of a list (`MPI_Testany`; MPI 4.1, 3.7.5). Writes its
+    /// outcome to the front of its span of `out`; a once request becomes null. Null and Idle
+    /// requests are inactive. Takes no memory.
     ///
     /// # Errors
     ///
-    /// In this order, with nothing changed: Stale where a request names none that is live, NotYours where it is another rank's,
-    /// that of the first such request; BadLength where the outcome of the one to be completed has more bytes than its span.
+    /// In this order, with nothing changed: Stale if a request isn't live, or NotYours if it is
+    /// another rank's, whichever comes first in the list; BadLength if the outcome to be completed
+    /// is longer than its span.
     pub fn test_any(
         &mut self,
         rank: u8,
@@ -53,14 +55,16 @@ impl Engine {
         Ok(First::At(position))
     }
 
-    /// Completes all requests of a list that are Done (`MPI_Testsome`; MPI 4.1, 3.7.5), in rising position: each outcome stands at
-    /// the front of its request's span of `out` then, and once requests are null. Returns how many there were, none where no
-    /// request is active. Null and Idle requests are inactive. It takes no memory.
+    /// Completes all Done requests of a list in rising position (`MPI_Testsome`; MPI 4.1, 3.7.5).
+    /// Writes each outcome to the front of its request's span of `out`; once requests become null.
+    /// Returns how many there were; None if no request is active. Null and Idle requests are
+    /// inactive. Takes no memory.
     ///
     /// # Errors
     ///
-    /// In this order, with nothing changed: Stale where a request names none that is live, NotYours where it is another rank's,
-    /// that of the first such request; BadLength with the first outcome that has more bytes than its span.
+    /// In this order, with nothing changed: Stale if a request isn't live, or NotYours if it is
+    /// another rank's, whichever comes first in the list; BadLength with the first outcome that is
+    /// longer than its span.
     pub fn test_some(
         &mut self,
         rank: u8,
@@ -87,12 +91,13 @@ impl Engine {
         Ok(Some(self.complete_parts(rank, parts, out)))
     }
 
-    /// Completes all requests of a list that are Done, if none is Pending (`MPI_Testall`; MPI 4.1, 3.7.5), as `test_some` does;
-    /// else the answer is false. Null and Idle requests are inactive; it is true where none is active. It takes no memory.
+    /// Completes all Done requests of a list if none is Pending (`MPI_Testall`; MPI 4.1, 3.7.5), as
+    /// `test_some` does. Returns false if one is Pending, true if none is active. Null and Idle
+    /// requests are inactive. Takes no memory.
     ///
     /// # Errors
     ///
-    /// As those of `test_some`; of BadLength only where no request is Pending.
+    /// As `test_some`; BadLength only if no request is Pending.
     pub fn test_all(
         &mut self,
         rank: u8,

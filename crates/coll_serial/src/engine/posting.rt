@@ -41,12 +41,14 @@ impl Engine {
         plan(self.alloc, sig, seat.size, seat.member)
     }
 
-    /// Starts a collective (`MPI_Ibcast` and its like; MPI 4.1, 6.12) with the contribution of the rank, which is copied.
+    /// Starts a collective (`MPI_Ibcast` and its like; MPI 4.1, 6.12). Copies the rank's
+    /// contribution.
     ///
     /// # Errors
     ///
-    /// In this order, with nothing changed: BadComm; NotMember; BadSignature; Mismatch where another member has another
-    /// signature at the rank's next place; PlacesUsed; BadLength; Full. NoMemory may come in place of a later one.
+    /// In this order, with nothing changed: BadComm; NotMember; BadSignature; Mismatch if another
+    /// member has another signature at the rank's next place; PlacesUsed; BadLength; Full. NoMemory
+    /// may come in place of a later one.
     pub fn post(
         &mut self,
         rank: u8,
@@ -79,8 +81,9 @@ impl Engine {
     ///
     /// # Errors
     ///
-    /// In this order, with nothing changed: BadComm; NotMember; BadSignature; Mismatch where another member has another
-    /// signature at the rank's next place; PlacesUsed; Full. NoMemory may come in place of a later one.
+    /// In this order, with nothing changed: BadComm; NotMember; BadSignature; Mismatch if another
+    /// member has another signature at the rank's next place; PlacesUsed; Full. NoMemory may come
+    /// in place of a later one.
     pub fn init(&mut self, rank: u8, comm: u32, sig: Signature) -> Result<Request, Refusal>
         ensures setting { setting self.new ≡ setting self.old }
         ensures made { IfOk result (InitsTo (setting self.old) (seen self.old) (init_by (setting self.old) rank comm sig) (seen self.new)) }
@@ -102,12 +105,13 @@ impl Engine {
         }
     }
 
-    /// Starts a persistent request (`MPI_Start`; MPI 4.1, 3.9) with the contribution of the rank, which is copied.
+    /// Starts a persistent request (`MPI_Start`; MPI 4.1, 3.9). Copies the rank's contribution.
     ///
     /// # Errors
     ///
-    /// In this order, with nothing changed: Stale, also where the request is null; NotYours; NotPersistent; Active; BadLength;
-    /// StartsUsed. NoMemory may come in place of any but the first.
+    /// In this order, with nothing changed: Stale, also if the request is null; NotYours;
+    /// NotPersistent; Active; BadLength; StartsUsed. NoMemory may come in place of any but the
+    /// first.
     pub fn start(&mut self, rank: u8, request: &Request, bytes: &[u8]) -> Result<(), Refusal>
         ensures setting { setting self.new ≡ setting self.old }
         ensures starts { OnOk result (StartsAt (setting self.old) rank (seen self.old) (request.now, bytes.now) (seen self.new)) }
@@ -125,12 +129,13 @@ impl Engine {
         Ok(())
     }
 
-    /// Gives up a persistent request that isn't active, and leaves null (`MPI_Request_free`; MPI 4.1, 3.7.3). Its place in the
-    /// posting list stays taken. It takes no memory.
+    /// Frees an inactive persistent request, and leaves null (`MPI_Request_free`; MPI 4.1, 3.7.3).
+    /// Its place in the posting list stays taken. Takes no memory.
     ///
     /// # Errors
     ///
-    /// In this order, with nothing changed: Stale, also where the request is null; NotYours; NotPersistent; Active.
+    /// In this order, with nothing changed: Stale, also if the request is null; NotYours;
+    /// NotPersistent; Active.
     pub fn free(&mut self, rank: u8, request: &mut Request) -> Result<(), Refusal>
         ensures setting { setting self.new ≡ setting self.old }
         ensures refused { result_err result ≡ free_refusal (setting self.old) (seen self.old).state rank request.old }

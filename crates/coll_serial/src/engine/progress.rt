@@ -11,8 +11,8 @@ use coll_core::{Stepped, Work};
 use coll_kinds::Refusal;
 
 impl Engine {
-    /// Makes at most `budget` actions, each of which copies bytes at most once or combines two rows. Returns how many there
-    /// were; there are fewer only where none is left to do.
+    /// Carries out at most `budget` actions, each of which copies bytes at most once or combines
+    /// two rows. Returns how many there were, fewer than `budget` only if none is left to do.
     ///
     /// # Errors
     ///
@@ -33,7 +33,7 @@ impl Engine {
         Ok(budget)
     }
 
-    /// Makes all actions that can be made.
+    /// Carries out all actions that can be carried out.
     ///
     /// # Errors
     ///

@@ -10,12 +10,13 @@ use crate::part::{Part, bytes_of};
 use crate::stopped::Stopped;
 
 impl Engine {
-    /// Starts the requests of a list in rising position, each with the bytes of its span of `given`, which are copied
-    /// (`MPI_Startall`; MPI 4.1, 3.9).
+    /// Starts the requests of a list in rising position (`MPI_Startall`; MPI 4.1, 3.9). Copies the
+    /// bytes of each request's span of `given`.
     ///
     /// # Errors
     ///
-    /// At the first position whose start is refused, with that refusal as `start` answers it. The requests before it stay started.
+    /// The first refusal, as `start` returns it, with its position. The requests before it stay
+    /// started.
     pub fn start_all(&mut self, rank: u8, parts: &[Part], given: &[u8]) -> Result<(), Stopped>
         ensures setting { setting self.new ≡ setting self.old }
         ensures starts { OnOk result (StartsAll (setting self.old) rank (seen self.old) (begun_of parts.now given.now) (seen self.new)) }

@@ -15,13 +15,13 @@ use coll_core::laws::lock_is_free;
 use coll_kinds::Refusal;
 
 impl Engine {
-    /// Completes a request if it is Done (`MPI_Test`; MPI 4.1, 3.7.3): its outcome stands at the front of `out` then, and a
-    /// once request is null. It takes no memory.
+    /// Completes a request if it is Done (`MPI_Test`; MPI 4.1, 3.7.3). Writes its outcome to the
+    /// front of `out`; a once request becomes null. Takes no memory.
     ///
     /// # Errors
     ///
-    /// In this order, with nothing changed: Stale where the request names none that is live; NotYours where it is another
-    /// rank's; BadLength where it is Done and its outcome has more bytes than `out`.
+    /// In this order, with nothing changed: Stale if the request isn't live; NotYours if it is
+    /// another rank's; BadLength if it is Done and its outcome is longer than `out`.
     pub fn test(&mut self, rank: u8, request: &mut Request, out: &mut [u8]) -> Result<Test, Refusal>
         ensures setting { setting self.new ≡ setting self.old }
         ensures refused { IfErr result (DeniesTest (setting self.old) (seen self.old) rank request.old (length out.old)) }

@@ -2,11 +2,11 @@ use crate::locked::Locked;
 use coll_traced::{Entries, Ranks};
 use std::sync::MutexGuard;
 
-/// A hold of the engine's lock. It has no Drop, so a path on which a hold is forgotten doesn't compile. `Combiner::release` ends one;
-/// `Combiner::compute_between` ends one and begins the next.
+/// A guard of the engine's lock. It has no Drop, so code that forgets a guard doesn't compile.
+/// `Combiner::release` ends a guard; `Combiner::compute_between` ends one and takes the next.
 pub(crate) struct Held<'a, L: Entries> {
     pub(crate) locked: MutexGuard<'a, Locked<L>>,
-    /// The ranks whose parked ports were answered or called under this hold.
+    /// The ranks whose parked ports were answered or summoned under this guard.
     wake: Ranks,
 }
 
@@ -18,7 +18,8 @@ impl<'a, L: Entries> Held<'a, L> {
         }
     }
 
-    /// A rank's record was answered, or its port called: a parked port is woken once the lock is free.
+    /// Notes that a rank's port was answered or summoned. If it is parked, it is woken after the
+    /// unlock.
     pub(super) fn wakes(&mut self, rank: u8) {
         if self.locked.parked.has(rank) {
             self.locked.parked = self.locked.parked.without(rank);
@@ -26,7 +27,7 @@ impl<'a, L: Entries> Held<'a, L> {
         }
     }
 
-    /// Gives the lock up, and nothing else. Returns the ranks to wake.
+    /// Unlocks, and nothing else. Returns the ranks to wake.
     pub(super) fn unlock(self) -> Ranks {
         let Held { locked, wake } = self;
         drop(locked);

@@ -1,5 +1,6 @@
-//! A port's tests and waits. What they return was so while the port had the engine. A wait for a list looks with the lock, and registers what
-//! it waits for before it gives the lock up; it is given up only where a last look finds it unfinished.
+//! A port's tests and waits. Their results held while the port had the engine. A wait for a list
+//! checks with the lock held, and registers what it waits for before it unlocks. It is refused only
+//! if a last check finds it unfinished.
 
 ghost use Rattle.std.specs.Prelude.{◌≡◌, ◌+◌, ◌<◌, ◌≤◌, ◌⊎◌, IfErr, IfOk, IfSome, None, OnErr, Some, length, true, vec_capacity, vec_len};
 ghost use Rattle.std.specs.Result.{result_err};
@@ -19,12 +20,13 @@ use std::rt::Clock;
 use std::sync::Wait;
 
 impl<L: Entries> Port<L> {
-    /// Completes a request if it is Done (`MPI_Test`; MPI 4.1, 3.7.3). At a null or Idle request the flag is true, and
-    /// there is no outcome.
+    /// Completes a Done request (`MPI_Test`; MPI 4.1, 3.7.3). For a null or Idle request the flag
+    /// is true, and there is no outcome.
     ///
     /// # Errors
     ///
-    /// Stale where the ticket names no live request, then NotYours where it is another rank's; nothing changes.
+    /// Stale if the ticket names no live request, then NotYours if it names another rank's; nothing
+    /// changes.
     pub fn test<R: Wait>(
         &mut self,
         rt: &R,
@@ -47,13 +49,13 @@ impl<L: Entries> Port<L> {
         tested
     }
 
-    /// Completes the lowest request of a list that is Done (`MPI_Testany`; MPI 4.1, 3.7.5). Null and Idle requests are
-    /// inactive.
+    /// Completes the lowest Done request of a list (`MPI_Testany`; MPI 4.1, 3.7.5). Null and Idle
+    /// requests are inactive.
     ///
     /// # Errors
     ///
-    /// Stale where a ticket names no live request, NotYours where it names another rank's: that of the first such request.
-    /// Nothing changes.
+    /// Those of the first request that has one, with nothing changed: Stale if a ticket names no
+    /// live request, NotYours if it names another rank's.
     pub fn test_any<R: Wait>(
         &mut self,
         rt: &R,
@@ -76,8 +78,9 @@ impl<L: Entries> Port<L> {
         tested
     }
 
-    /// Completes all requests of a list that are Done, if no request of it is Pending (`MPI_Testall`; MPI 4.1, 3.7.5),
-    /// and pushes each position with its outcome to `out`, in rising position; false where one is Pending.
+    /// Completes all Done requests of a list if none of the list is Pending (`MPI_Testall`; MPI
+    /// 4.1, 3.7.5). Pushes each position with its outcome to `out`, in rising position. Returns
+    /// false if one is Pending.
     ///
     /// # Errors
     ///
@@ -106,8 +109,9 @@ impl<L: Entries> Port<L> {
         tested
     }
 
-    /// Completes all requests of a list that are Done (`MPI_Testsome`; MPI 4.1, 3.7.5), pushes each position with its
-    /// outcome to `out`, in rising position, and answers how many there were; none where no request is active.
+    /// Completes all Done requests of a list (`MPI_Testsome`; MPI 4.1, 3.7.5). Pushes each position
+    /// with its outcome to `out`, in rising position. Returns how many there were; None if no
+    /// request is active.
     ///
     /// # Errors
     ///
@@ -137,14 +141,18 @@ impl<L: Entries> Port<L> {
         tested
     }
 
-    /// Waits until a request isn't Pending, and completes it if it is Done (`MPI_Wait`; MPI 4.1, 3.7.3); none where it is
-    /// null or Idle. Whoever finishes the request meanwhile may complete it for the port.
+    /// Waits until a request isn't Pending, and completes it if it is Done (`MPI_Wait`; MPI 4.1,
+    /// 3.7.3). Returns None for a null or Idle request. The thread that finishes the request may
+    /// complete it for the port.
     ///
     /// # Errors
     ///
-    /// Stale where the ticket names no live request, and NotYours where it is another rank's; Stalled where it would
-    /// sleep and nothing can go on any more; NoMemory of a step or of a combination; Stale where the result of a
-    /// combination that it made isn't wanted any longer. The request is as it was, and the steps that were made stay.
+    /// The request stays as it was, and steps that were made stay made.
+    ///
+    /// - Stale if the ticket names no live request, NotYours if it names another rank's.
+    /// - Stalled if the port would sleep and the engine is deadlocked.
+    /// - NoMemory for a step or a combination.
+    /// - Stale if the result of a combination that this thread computed isn't wanted any longer.
     pub fn wait<R: Wait + Clock, G: Gate>(
         &mut self,
         rt: &R,
@@ -167,13 +175,14 @@ impl<L: Entries> Port<L> {
         waited
     }
 
-    /// Waits until a request of a list is Done, and completes the lowest such one (`MPI_Waitany`; MPI 4.1, 3.7.5); none
-    /// where no request of it is active.
+    /// Waits until a request of a list is Done, and completes the lowest such request
+    /// (`MPI_Waitany`; MPI 4.1, 3.7.5). Returns None if no request of the list is active.
     ///
     /// # Errors
     ///
-    /// Stale where a ticket names no live request, NotYours where it names another rank's: that of the first such request;
-    /// then as `wait`; and where the list names a request more than once, NoMemory also of what it notes before it sleeps.
+    /// Those of the first request that has one: Stale if a ticket names no live request, NotYours
+    /// if it names another rank's. Then as `wait`. If the list names a request more than once,
+    /// NoMemory also for the note of what the port waits for.
     pub fn wait_any<R: Wait + Clock, G: Gate>(
         &mut self,
         rt: &R,
@@ -223,8 +232,9 @@ impl<L: Entries> Port<L> {
         unreachable!()
     }
 
-    /// Waits until no request of a list is Pending, completes those that are Done (`MPI_Waitall`; MPI 4.1, 3.7.5), and
-    /// pushes each position with its outcome to `out`, in rising position. Before that it completes none.
+    /// Waits until no request of a list is Pending, and completes those that are Done
+    /// (`MPI_Waitall`; MPI 4.1, 3.7.5). Pushes each position with its outcome to `out`, in rising
+    /// position. Completes none before that.
     ///
     /// # Errors
     ///
@@ -273,9 +283,9 @@ impl<L: Entries> Port<L> {
         unreachable!()
     }
 
-    /// Waits until a request of a list is Done, completes all that are (`MPI_Waitsome`; MPI 4.1, 3.7.5), pushes each
-    /// position with its outcome to `out`, in rising position, and answers how many there were, at least one; none where no
-    /// request is active.
+    /// Waits until a request of a list is Done, and completes all that are (`MPI_Waitsome`; MPI
+    /// 4.1, 3.7.5). Pushes each position with its outcome to `out`, in rising position. Returns how
+    /// many there were, at least one; None if no request is active.
     ///
     /// # Errors
     ///

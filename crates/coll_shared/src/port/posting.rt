@@ -19,8 +19,8 @@ use std::rt::Clock;
 use std::sync::Wait;
 
 impl<L: Entries> Port<L> {
-    /// Starts a collective (`MPI_Ibcast` and its like; MPI 4.1, 6.12). Where another thread has the engine's lock, that thread may
-    /// make the post.
+    /// Starts a collective (`MPI_Ibcast` and its like; MPI 4.1, 6.12). If another thread holds the
+    /// engine's lock, that thread may make the post.
     ///
     /// # Errors
     ///
@@ -58,7 +58,8 @@ impl<L: Entries> Port<L> {
         }
     }
 
-    /// Starts a collective with these bytes, by the rank's plan of it, as `ready_plan` and `post` do.
+    /// Starts a collective with these bytes. Plans it as `ready_plan` does, and posts it as `post`
+    /// does.
     ///
     /// # Errors
     ///
@@ -122,12 +123,13 @@ impl<L: Entries> Port<L> {
         }
     }
 
-    /// Gives up a persistent request that isn't active, and leaves null (`MPI_Request_free`; MPI 4.1, 3.7.3). It takes no
-    /// memory.
+    /// Frees an inactive persistent request, and leaves null (`MPI_Request_free`; MPI 4.1, 3.7.3).
+    /// Takes no memory.
     ///
     /// # Errors
     ///
-    /// In this order, with nothing changed: Stale, also where the request is null; NotYours; NotPersistent; Active.
+    /// In this order, with nothing changed: Stale, also if the request is null; NotYours;
+    /// NotPersistent; Active.
     pub fn free<R: Wait>(&mut self, rt: &R, request: &mut Request) -> Result<Receipt, Refusal>
         ensures rank { self.new.rank ≡ self.old.rank }
         ensures groups { self.new.groups ≡ self.old.groups }

@@ -21,7 +21,8 @@ impl<L: Entries> Port<L> {
     ///
     /// # Errors
     ///
-    /// Stale where the request is null; then those of `TracedCore::start`, in its order. The contribution is handed back.
+    /// Stale if the request is null; then those of `TracedCore::start`, in its order. The
+    /// contribution is handed back.
     pub fn start<R: Wait + Clock>(
         &mut self,
         rt: &R,
@@ -52,7 +53,7 @@ impl<L: Entries> Port<L> {
         started
     }
 
-    /// Starts a persistent request with bytes that are taken; where it is refused, they stay.
+    /// Starts a persistent request and takes the bytes; if the start is refused, the bytes stay.
     fn start_taking<R: Wait + Clock>(
         &mut self,
         rt: &R,
@@ -77,13 +78,13 @@ impl<L: Entries> Port<L> {
         }
     }
 
-    /// Starts the requests of a list in rising position, each with the contribution at its position (`MPI_Startall`; MPI 4.1, 3.9), and pushes
-    /// what shows each start to `receipts`.
+    /// Starts the requests of a list in rising position, each with the contribution at its position
+    /// (`MPI_Startall`; MPI 4.1, 3.9). Pushes what shows each start to `receipts`.
     ///
     /// # Errors
     ///
-    /// At the first position whose start is refused, with that refusal as `start` returns it. The requests before it stay started, with
-    /// their receipts in `receipts`, and what wasn't used comes back.
+    /// The first refusal, as `start` returns it, with its position. The requests before it stay
+    /// started, with their receipts in `receipts`, and unused contributions come back.
     pub fn start_all<R: Wait + Clock>(
         &mut self,
         rt: &R,

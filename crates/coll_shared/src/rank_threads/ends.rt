@@ -3,12 +3,13 @@ ghost use Rattle.std.specs.Prelude.{◌≡◌, ◌⊎◌, All, Contains, IfErr, 
 use coll_kinds::Refusal;
 use std::marker::Model;
 
-/// How an engine's threads ended. Only [`run_rank_threads`](crate::run_rank_threads) makes one, so who holds it knows that the threads ran.
+/// How an engine's threads ended. Only [`run_rank_threads`](crate::run_rank_threads) makes one, so
+/// whoever has one knows that the threads ran.
 #[derive(Drop)]
 pub struct Ends<T> {
-    /// Whether each of them could be started. Else no rank made a call.
+    /// Whether each of them could be started. If not, no rank made a call.
     all_started: bool,
-    /// In rising rank.
+    /// How the ranks' threads ended, in rising rank.
     ranks: Vec<T>,
     /// Why a progress thread ended before it was to.
     workers: Vec<Option<Refusal>>,
@@ -23,7 +24,7 @@ impl<T> Model for Ends<T> {
 }
 
 impl<T: Drop> Ends<T> {
-    /// Of threads that were joined.
+    /// Makes the ends of joined threads.
     pub(super) fn of(all_started: bool, ranks: Vec<T>, workers: Vec<Option<Refusal>>) -> Ends<T>
         ensures started { result.all_started ≡ all_started }
         ensures ranks { result.ranks ≡ ranks.items }
@@ -36,7 +37,8 @@ impl<T: Drop> Ends<T> {
         }
     }
 
-    /// Whether each thread could be started, how the ranks' threads ended, in rising rank, and why a progress thread ended before it was to.
+    /// Returns whether each thread could be started, how the ranks' threads ended, in rising rank,
+    /// and why a progress thread ended before it was to.
     pub fn into_parts(self) -> (bool, Vec<T>, Vec<Option<Refusal>>)
         ensures started { result.0 ≡ self.all_started }
         ensures ranks { result.1.items ≡ self.ranks }
@@ -50,11 +52,12 @@ impl<T: Drop> Ends<T> {
         (all_started, ranks, workers)
     }
 
-    /// How the ranks' threads ended, in rising rank.
+    /// Returns how the ranks' threads ended, in rising rank.
     ///
     /// # Errors
     ///
-    /// NoMemory where a thread couldn't be started; else why the first progress thread ended that did before it was to.
+    /// NoMemory if a thread couldn't be started; else why the first progress thread ended before it
+    /// was to.
     pub fn into_ranks(self) -> Result<Vec<T>, Refusal>
         ensures started { IfOk result (λ ranks. self.all_started ≡ true) }
         ensures workers { IfOk result (λ ranks. All (λ end. end ≡ None) self.workers) }

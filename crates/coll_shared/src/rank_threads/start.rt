@@ -15,7 +15,7 @@ pub(super) struct Start {
 }
 
 impl Start {
-    /// Threads are held back.
+    /// Makes a barrier that holds threads back.
     pub(super) fn new() -> Start {
         Start {
             signal: Mutex::new(Signal::Hold),
@@ -34,7 +34,7 @@ impl Start {
         self.given.notify_all();
     }
 
-    /// Waits until it is known. Returns whether all threads have been started.
+    /// Waits until it is known. Returns whether all threads were started.
     pub(super) fn wait<R: Wait>(&self, rt: &R) -> bool {
         let mut signal = self.signal.lock(rt);
         for _ in rt.forever() {

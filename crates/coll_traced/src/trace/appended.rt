@@ -4,8 +4,8 @@ ghost use Rattle.coll_report.specs.Views.{seen};
 use coll_report::Entry;
 use std::marker::Model;
 
-/// A copy of the entry that a call appended. Contracts see it as that entry; only the trace makes one. It can cross threads, which a
-/// `Receipt` can't beside a tally.
+/// A copy of the entry that a call appended. Only the trace makes one. It can go to another thread,
+/// which a `Receipt` can't do beside a tally. Contracts see the entry.
 #[derive(Drop)]
 pub struct Appended {
     entry: Entry,
@@ -21,14 +21,14 @@ impl Model for Appended {
 }
 
 impl Appended {
-    /// Of an entry that was appended.
+    /// Makes the copy of an appended entry.
     pub(super) fn of(entry: Entry) -> Self
         ensures { result ≡ seen entry }
     {
         Appended { entry }
     }
 
-    /// The entry.
+    /// Returns the entry.
     pub fn entry(&self) -> &Entry
         ensures { seen result.now ≡ self.now }
     {

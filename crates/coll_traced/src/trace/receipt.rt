@@ -6,8 +6,8 @@ use coll_report::Entry;
 use std::marker::Model;
 use std::snapshot::Snapshot;
 
-/// Shows which entry a call appended to the trace. Contracts see it as that entry; it takes no bytes, and only the trace makes one, or
-/// an entry that it appended.
+/// Shows which entry a call appended to the trace. Takes no bytes. Only the trace makes one, or an
+/// entry that the trace appended. Contracts see the entry.
 #[derive(Drop)]
 pub struct Receipt {
     entry: Snapshot<Entry>,
@@ -23,7 +23,7 @@ impl Model for Receipt {
 }
 
 impl Receipt {
-    /// Of an entry that is about to be appended.
+    /// Makes the receipt of an entry that is about to be appended.
     pub(super) fn of_entry(entry: &Entry) -> Self
         ensures { result ≡ seen entry.now }
     {
@@ -32,7 +32,7 @@ impl Receipt {
         }
     }
 
-    /// Of an entry that was appended for the caller.
+    /// Makes the receipt of an entry that another thread appended for the caller.
     pub fn of(appended: &Appended) -> Self
         ensures { result ≡ appended.now }
     {

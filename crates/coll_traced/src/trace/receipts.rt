@@ -9,16 +9,17 @@ use coll_report::Entry;
 use std::marker::Model;
 use std::snapshot::Snapshot;
 
-/// Shows which entries a call appended to the trace. Contracts see it as the list of them; only the trace makes one, or a completion.
+/// Shows which entries a call appended to the trace. Only the trace makes one, or a completion.
+/// Contracts see the list of entries.
 #[derive(Drop)]
 pub struct Receipts {
     shown: Shown,
 }
 
-/// What shows them.
+/// What shows the entries.
 #[derive(Drop)]
 pub(crate) enum Shown {
-    /// Two moments of the trace: what was appended between.
+    /// Two snapshots of the trace, between which the entries were appended.
     Between {
         before: Snapshot<Vec<Entry>>,
         after: Snapshot<Vec<Entry>>,
@@ -42,7 +43,7 @@ impl Model for Receipts {
 }
 
 impl Receipts {
-    /// Of what was appended between two moments of a trace.
+    /// Makes the receipts of what was appended between two snapshots.
     pub(super) fn between(before: Snapshot<Vec<Entry>>, after: Snapshot<Vec<Entry>>) -> Self
         ensures { result ≡ drop (length (trace_seen before.value.items)) (trace_seen after.value.items) }
     {
@@ -51,7 +52,7 @@ impl Receipts {
         }
     }
 
-    /// Of a request that was completed for its port.
+    /// Makes the receipt of a request that was completed for its port.
     pub(crate) fn of<L: Entries>(completed: &Completed<L>) -> Self
         ensures { result ≡ completed.now.entry ∷ [] }
     {

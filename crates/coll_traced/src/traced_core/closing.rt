@@ -1,4 +1,4 @@
-//! Whether the engine can be closed, and what is taken out of it then.
+//! Whether the engine can be closed, and what a close takes out.
 
 ghost use Rattle.std.specs.Prelude.{◌≡◌, ◌<◌, ℕ, IfSome, IsNone, length};
 ghost use Rattle.coll_machine.specs.Traces.{LegalTrace};
@@ -16,7 +16,7 @@ use std::mem;
 use std::sync::ledger::Share;
 
 impl<L: Entries> TracedCore<L> {
-    /// How many ranks there are.
+    /// Returns the number of ranks.
     pub fn ranks(&self) -> u8
         ensures ranks { result ≡ L.setting.ranks }
         ensures setting { setting self.now.core ≡ L.setting }
@@ -24,7 +24,7 @@ impl<L: Entries> TracedCore<L> {
         self.config.ranks
     }
 
-    /// The lowest rank that has an active request, as the trace shows.
+    /// Returns the lowest rank that has an active request, as the trace shows.
     fn first_busy(&self) -> Option<u8>
         ensures none { IsNone result → IsIdle (seen self.now.core).state }
         ensures balanced { IsNone result → (r : ℕ) → r < L.setting.ranks → IsBalanced r self.now.entries }
@@ -33,9 +33,9 @@ impl<L: Entries> TracedCore<L> {
         self.trace.first_unbalanced(self.config.ranks)
     }
 
-    /// Why the engine can't be closed with these ends of ports: StillActive with the lowest rank that has an active
-    /// request, and else Torn, unless they are the ends of all ports, in the order of their ranks, and each made as many
-    /// entries as its rank has.
+    /// Returns why the engine can't be closed with these ends of ports, or None. StillActive names
+    /// the lowest rank with an active request. Torn means that `ends` aren't the ends of all ports
+    /// in the order of ranks, or that one made another number of entries than its rank has.
     pub fn objection(&self, ends: &[Spent<L>]) -> Option<Refusal>
         ensures idle { IsNone result → IsIdle (seen self.now.core).state }
         ensures balanced { IsNone result → (r : ℕ) → r < L.setting.ranks → IsBalanced r self.now.entries }
@@ -55,7 +55,8 @@ impl<L: Entries> TracedCore<L> {
         None
     }
 
-    /// Takes the trace, where all shares came back, and leaves an engine that has none.
+    /// Takes the trace, once all shares of the ledger came back, and leaves an engine with an empty
+    /// one.
     pub fn take_report(&mut self, replacement: Replacement, all: &mut Share<L>) -> Report
         requires whole { all.old.parts ≡ L.parts }
         requires setting { replacement ≡ L.setting }

@@ -16,12 +16,13 @@ use coll_kinds::{Refusal, Ticket};
 use coll_report::Entry;
 
 impl<L: Entries> TracedCore<L> {
-    /// Completes a request that is Done, as the core's `retire` does, and appends its entry. None where it isn't Done,
-    /// and nothing changes. It takes no memory.
+    /// Completes a Done request, as the core's `retire` does, and appends its entry. Returns None,
+    /// and changes nothing, if the request isn't Done. Takes no memory.
     ///
     /// # Errors
     ///
-    /// Stale where the ticket names no live request, then NotYours where it is another rank's; nothing changes.
+    /// Stale if the ticket names no live request, then NotYours if it names another rank's; nothing
+    /// changes.
     pub fn retire(
         &mut self,
         mine: &mut Tally<L>,

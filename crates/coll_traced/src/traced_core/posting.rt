@@ -23,14 +23,14 @@ use coll_plans::Plan;
 use coll_report::Entry;
 
 impl<L: Entries> TracedCore<L> {
-    /// Which of its kind the trace's last entry names.
+    /// Returns the last entry's place on its communicator; of a start, the number of the start.
     pub(crate) fn last_place(&self) -> u32
         ensures { NamesLast self.now.entries result }
     {
         self.trace.last_place()
     }
 
-    /// A copy of the trace's last entry.
+    /// Returns a copy of the trace's last entry.
     pub(crate) fn last(&self, copy: Entry) -> Appended
         requires { IsLast self.now.entries (seen_as copy) }
         ensures { result ≡ seen_as copy }
@@ -38,13 +38,15 @@ impl<L: Entries> TracedCore<L> {
         self.trace.last(copy)
     }
 
-    /// Starts a collective, as the core's `post` does, and appends its entry. `prepared` is `Prepared::of` of the offer: the schedule's
-    /// buffer, and with room for two entries all memory that the entries of the request take.
+    /// Starts a collective, as the core's `post` does, and appends its entry. `prepared` is
+    /// `Prepared::of` of the offer. It has the schedule's buffer; with room for two entries that is
+    /// all memory that the request's entries take.
     ///
     /// # Errors
     ///
-    /// TraceFull where two entries more would pass the trace's limit; then NoMemory for them, or for the buffer; then the
-    /// errors of the core's `post`, in its order. The offer is handed back, and nothing changes.
+    /// TraceFull if two more entries would pass the trace's limit; then NoMemory for them, or for
+    /// the buffer; then the errors of the core's `post`, in its order. The offer is handed back,
+    /// and nothing changes.
     pub fn post(
         &mut self,
         mine: &mut Tally<L>,
@@ -99,12 +101,13 @@ impl<L: Entries> TracedCore<L> {
         Ok((ticket, receipt))
     }
 
-    /// Makes a persistent request, as the core's `init` does, and appends its entry, with memory for the one of its free.
+    /// Makes a persistent request, as the core's `init` does, and appends its entry. Takes memory
+    /// for the entry of its free, too.
     ///
     /// # Errors
     ///
-    /// TraceFull where two entries more would pass the trace's limit; then NoMemory for them; then the errors of the
-    /// core's `init`, in its order. The plan is handed back, and nothing changes.
+    /// TraceFull if two more entries would pass the trace's limit; then NoMemory for them; then the
+    /// errors of the core's `init`, in its order. The plan is handed back, and nothing changes.
     pub fn init(
         &mut self,
         mine: &mut Tally<L>,

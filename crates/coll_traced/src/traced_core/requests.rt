@@ -1,4 +1,4 @@
-//! A core with its trace, as the completion calls see it.
+//! A core with its trace, as `coll_complete`'s calls see it.
 
 use crate::tally::{Entries, Tally};
 use crate::traced_core::TracedCore;

@@ -1,4 +1,4 @@
-//! Who waits, and whether nothing can go on.
+//! Who waits, and whether the engine is deadlocked.
 
 ghost use Rattle.std.specs.Prelude.{◌≡◌, [], ◌↔◌, IsTrue, false, slice_set};
 ghost use Rattle.std.specs.Bool.{OnFalse, OnTrue};
@@ -11,24 +11,25 @@ use crate::traced_core::TracedCore;
 use crate::waiting::Waiting;
 
 impl<L: Entries> TracedCore<L> {
-    /// Whether nothing can go on: no request is ready, no combination is handed out, and each port has ended or waits for a request that
-    /// isn't Done. Linear in the ports.
+    /// Tells whether the engine is deadlocked (stalled): no request is ready, no combination is
+    /// handed out, and each port has ended or waits for a request that isn't Done. Linear in the
+    /// ports.
     pub fn stall_now(&self) -> bool
         ensures { IsTrue result ↔ IsStalled self.now }
     {
         self.core.quiet() && self.waits.all_are_blocked(&self.core)
     }
 
-    /// Whether it was found that nothing can go on while the rank's port waited for what it waits for now.
+    /// Tells whether a deadlock was found while the rank's port waited for what it waits for now.
     pub fn is_stalled(&self, rank: u8) -> bool
         ensures told { IsTrue result → WasStalled L.setting rank }
     {
         self.waits.is_marked(rank)
     }
 
-    /// Where nothing can go on, marks the ports that wait, for as long as they wait for the same. Returns whether nothing can go on. It is
-    /// a few instructions where a request is ready or a combination is out, else linear in the ports, and where nothing can go on in what
-    /// they wait for.
+    /// Marks the waiting ports, if the engine is deadlocked, for as long as they wait for the same.
+    /// Returns whether it is. Takes a few instructions if a request is ready or a combination is
+    /// out; else it is linear in the ports, and in a deadlock linear in what they wait for.
     pub fn tell_stall(&mut self) -> bool
         ensures core { self.new.core ≡ self.old.core }
         ensures entries { self.new.entries ≡ self.old.entries }
@@ -45,7 +46,7 @@ impl<L: Entries> TracedCore<L> {
         true
     }
 
-    /// Whether a port waits that was marked when nothing could go on. Linear in the ports.
+    /// Tells whether a port still waits that was marked at a deadlock. Linear in the ports.
     pub fn some_is_marked(&self) -> bool {
         self.waits.some_is_marked()
     }
@@ -60,7 +61,7 @@ impl<L: Entries> TracedCore<L> {
         self.waits.put(rank, Waiting::Awake);
     }
 
-    /// Notes that a port makes no call any more.
+    /// Notes that a port has ended and makes no more calls.
     pub fn end(&mut self, rank: u8)
         ensures core { self.new.core ≡ self.old.core }
         ensures entries { self.new.entries ≡ self.old.entries }
@@ -70,12 +71,12 @@ impl<L: Entries> TracedCore<L> {
         self.waits.put(rank, Waiting::Ended);
     }
 
-    /// The ranks whose wait is over. Linear in the ports.
+    /// Returns the ranks whose wait is over. Linear in the ports.
     pub fn met(&self) -> Ranks {
         self.waits.met(&self.core)
     }
 
-    /// The ranks whose ports wait for requests.
+    /// Returns the ranks whose ports wait for requests.
     pub fn waiting(&self) -> Ranks {
         self.waits.waiting()
     }

@@ -21,13 +21,14 @@ use coll_kinds::{Refusal, Refused, Ticket};
 use coll_report::Entry;
 
 impl<L: Entries> TracedCore<L> {
-    /// Starts a persistent request, as the core's `start` does, and appends its entry, with memory for the one of its
-    /// completion, its outcome's bytes among it.
+    /// Starts a persistent request, as the core's `start` does, and appends its entry. Takes memory
+    /// for the completion's entry, too, with the outcome's bytes.
     ///
     /// # Errors
     ///
-    /// TraceFull where two entries more would pass the trace's limit; then NoMemory for them; then the errors of the
-    /// core's `start`, in its order. The contribution is handed back, and nothing changes.
+    /// TraceFull if two more entries would pass the trace's limit; then NoMemory for them; then the
+    /// errors of the core's `start`, in its order. The contribution is handed back, and nothing
+    /// changes.
     pub fn start(
         &mut self,
         mine: &mut Tally<L>,
@@ -73,8 +74,8 @@ impl<L: Entries> TracedCore<L> {
         )
     }
 
-    /// Gives up a persistent request that isn't active, as the core's `free` does, and appends its entry. It takes no
-    /// memory.
+    /// Frees an inactive persistent request, as the core's `free` does, and appends its entry.
+    /// Takes no memory.
     ///
     /// # Errors
     ///

@@ -1,4 +1,4 @@
-//! Steps, and combinations that were handed out. None of these adds an entry.
+//! Steps, and handed-out combinations. None of these calls adds an entry.
 
 ghost use Rattle.std.specs.Prelude.{◌≡◌, ◌<◌, ◌↔◌, [], length, IfErr, IfOk, IfSome, IsOkUnless, IsTrue, None, Ok, OnErr, OnOk, is_ok, is_some};
 ghost use Rattle.coll_core.specs.declared.stepped.Stepped.TheVariants.{Quiet};
@@ -59,7 +59,7 @@ impl<L: Entries> TracedCore<L> {
     ///
     /// # Errors
     ///
-    /// Stale, with nothing changed, unless the work is out.
+    /// Stale, with nothing changed, unless the combination is out.
     pub fn commit_short(&mut self, done: DoneShortWork) -> Result<Stepped, Refusal>
         ensures out { IsTrue (is_ok result) ↔ IsOut self.old.core done.piece }
         ensures steps { IfOk result (CommitSteps self.old.core self.new.core done) }
@@ -72,7 +72,7 @@ impl<L: Entries> TracedCore<L> {
         self.core.commit_short(done)
     }
 
-    /// Whether a request is ready.
+    /// Tells whether a request is ready.
     pub fn is_ready(&self) -> bool
         ensures { IsTrue result ↔ (0 < length (ready self.now.core)) }
     {
@@ -83,7 +83,7 @@ impl<L: Entries> TracedCore<L> {
     ///
     /// # Errors
     ///
-    /// Stale, with nothing changed, as there.
+    /// Stale, with nothing changed, as the core's.
     pub fn commit(&mut self, done: DoneWork) -> Result<Stepped, Refusal>
         ensures out { IsOut self.old.core done.piece → IsTrue (is_ok result) }
         ensures own { IfOk result (CommitsOwn self.old.core self.new.core done.piece) }
@@ -101,7 +101,7 @@ impl<L: Entries> TracedCore<L> {
     ///
     /// # Errors
     ///
-    /// Stale, with nothing changed, unless the work is out.
+    /// Stale, with nothing changed, unless the combination is out.
     pub fn abandon(&mut self, work: Work) -> Result<(), Refusal>
         ensures out { IsTrue (is_ok result) ↔ IsOut self.old.core work }
         ensures back { OnOk result (Returns self.old.core self.new.core work) }

@@ -1,5 +1,6 @@
-//! The tests of requests with receipts, in words that outlast the hold of a lock. The state of each is that of `coll_complete`'s call.
-//! `TracedCore::audit` shows that the trace has the entries of the caller's tally.
+//! Tests of requests with receipts, in contracts that still hold once the lock is free. Each test's
+//! state is that of `coll_complete`'s call. `TracedCore::audit` shows that the trace has the
+//! entries of the caller's tally.
 
 ghost use Rattle.std.specs.Prelude.{◌≡◌, ◌+◌, ◌≤◌, ◌∷◌, ◌++◌, [], IfOk, IfSome, None, OnErr, OnOk, drop, false, is_some, length, not, position, vec_capacity, vec_len};
 ghost use Rattle.std.specs.List.{list_any};
@@ -24,25 +25,27 @@ use coll_report::Entry;
 use std::snapshot::Snapshot;
 
 impl<L: Entries> TracedCore<L> {
-    /// The trace as it is now.
+    /// Takes a snapshot of the trace.
     fn moment(&self) -> Snapshot<Vec<Entry>>
         ensures { trace_seen result.value.items ≡ self.now.entries }
     {
         self.trace.moment()
     }
 
-    /// What was appended to the trace since then.
+    /// Returns what was appended to the trace since the snapshot.
     fn since(&self, before: Snapshot<Vec<Entry>>) -> Receipts
         ensures { result ≡ drop (length (trace_seen before.value.items)) self.now.entries }
     {
         self.trace.since(before)
     }
 
-    /// Completes a request if it is Done, as `coll_complete::test` does, and appends its entry. It takes no memory.
+    /// Completes a request if it is Done, as `coll_complete::test` does, and appends its entry.
+    /// Takes no memory.
     ///
     /// # Errors
     ///
-    /// Stale where the ticket names no live request, then NotYours where it is another rank's; nothing changes.
+    /// Stale if the ticket names no live request, then NotYours if it names another rank's; nothing
+    /// changes.
     pub fn tested(
         &mut self,
         mine: &mut Tally<L>,
@@ -72,13 +75,13 @@ impl<L: Entries> TracedCore<L> {
         }
     }
 
-    /// Completes the lowest request of a list that is Done, as `coll_complete::test_any` does, and appends its entry. It takes no
-    /// memory.
+    /// Completes the lowest Done request of a list, as `coll_complete::test_any` does, and appends
+    /// its entry. Takes no memory.
     ///
     /// # Errors
     ///
-    /// Stale where a ticket names no live request, NotYours where it names another rank's: that of the first such request.
-    /// Nothing changes.
+    /// Those of the first request that has one, with nothing changed: Stale if a ticket names no
+    /// live request, NotYours if it names another rank's.
     pub fn tested_any(
         &mut self,
         mine: &mut Tally<L>,
@@ -106,8 +109,9 @@ impl<L: Entries> TracedCore<L> {
         }
     }
 
-    /// Completes all requests of a list that are Done, if no request of it is Pending, as `coll_complete::test_all` does, and appends an
-    /// entry for each, in rising position. It takes no memory.
+    /// Completes all Done requests of a list if none of the list is Pending, as
+    /// `coll_complete::test_all` does. Appends an entry for each, in rising position. Takes no
+    /// memory.
     ///
     /// # Errors
     ///
@@ -141,8 +145,8 @@ impl<L: Entries> TracedCore<L> {
         }
     }
 
-    /// Completes all requests of a list that are Done, as `coll_complete::test_some` does, and appends an entry for each, in rising
-    /// position. It takes no memory.
+    /// Completes all Done requests of a list, as `coll_complete::test_some` does. Appends an entry
+    /// for each, in rising position. Takes no memory.
     ///
     /// # Errors
     ///
@@ -176,12 +180,13 @@ impl<L: Entries> TracedCore<L> {
         }
     }
 
-    /// Gives up a persistent request that isn't active, as `coll_complete::request_free` does, and appends its entry. It takes no
-    /// memory.
+    /// Frees an inactive persistent request, as `coll_complete::request_free` does, and appends its
+    /// entry. Takes no memory.
     ///
     /// # Errors
     ///
-    /// In this order, with nothing changed: Stale, also where the request is null; NotYours; NotPersistent; Active.
+    /// In this order, with nothing changed: Stale, also if the request is null; NotYours;
+    /// NotPersistent; Active.
     pub fn freed(
         &mut self,
         mine: &mut Tally<L>,

@@ -1,4 +1,4 @@
-//! What a waiting port asks: whether what it awaits is the case, and else for what it is to wait.
+//! What a waiting port asks: whether its wait is over, and else what to note for it.
 
 ghost use Rattle.std.specs.Prelude.{◌≡◌, ◌+◌, ◌<◌, ◌≤◌, ◌∷◌, ◌++◌, [], IfErr, IfOk, IfSome, IsNone, None, OnErr, Some, false, length, slice_set, true, vec_capacity, vec_len};
 ghost use Rattle.std.specs.Bool.{OnTrue};
@@ -22,7 +22,8 @@ use coll_core::{Outcome, Phase};
 use coll_kinds::{Refusal, Ticket};
 
 impl<L: Entries> TracedCore<L> {
-    /// `tested_some`, unless requests are active and none is Done: then None, and nothing changes.
+    /// `tested_some`, unless some request is active and none is Done. Then it returns None and
+    /// changes nothing.
     pub fn waited_some(
         &mut self,
         mine: &mut Tally<L>,
@@ -59,8 +60,9 @@ impl<L: Entries> TracedCore<L> {
         }
     }
 
-    /// A request of the rank in the list that is Pending, if there is one: the last, since it is Done last most often, and a port that
-    /// waits for all is to be woken seldom.
+    /// Returns a Pending request of the rank in the list, if there is one. It is the last one,
+    /// because that is mostly the last to become Done, and a port that waits for all should be
+    /// woken seldom.
     fn last_pending(&self, rank: u8, requests: &[Request]) -> Option<Ticket>
         ensures listed { IfSome result (IsListed requests.now) }
         ensures pending { IfSome result (λ ticket. phase_in (seen self.now.core) ticket ≡ Some Pending) }
@@ -75,7 +77,7 @@ impl<L: Entries> TracedCore<L> {
         None
     }
 
-    /// Notes that a port waits until the request is Done, if there is one, and answers whether there is.
+    /// Notes that a port waits until the request is Done. Returns whether there is a request.
     fn note_one(&mut self, rank: u8, ticket: Option<Ticket>) -> bool
         ensures core { self.new.core ≡ self.old.core }
         ensures entries { self.new.entries ≡ self.old.entries }
@@ -92,12 +94,13 @@ impl<L: Entries> TracedCore<L> {
         }
     }
 
-    /// Notes what a port waits for, unless its wait is over already. Returns whether it needs to wait. Where it waits for
-    /// all requests of a list, its last Pending one is noted.
+    /// Notes what a port waits for, unless its wait is over already. Returns whether the port has
+    /// to wait. If it waits for all requests of a list, the last Pending one is noted.
     ///
     /// # Errors
     ///
-    /// NoMemory, for a list of more tickets than the engine has slots: one that names a request twice. The port is awake then.
+    /// NoMemory, for a list with more tickets than the engine has slots, which names some request
+    /// twice. The port is awake then.
     pub fn register(&mut self, rank: u8, awaited: Awaited<'_>) -> Result<bool, Refusal>
         ensures core { self.new.core ≡ self.old.core }
         ensures entries { self.new.entries ≡ self.old.entries }
@@ -120,8 +123,8 @@ impl<L: Entries> TracedCore<L> {
         }
     }
 
-    /// Completes the request that a port waits for, if it waits for just one, and that is Done; the port is awake then. It takes no
-    /// memory.
+    /// Completes the request that a port waits for, if it waits for exactly one and that one is
+    /// Done. The port is awake then. Takes no memory.
     pub fn complete_for(&mut self, mine: &mut Tally<L>, rank: u8) -> Option<Completed<L>>
         ensures setting { setting self.new.core ≡ setting self.old.core }
         ensures rank { IfSome result (λ completed. completed.rank ≡ rank) }
