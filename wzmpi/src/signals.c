@@ -9,16 +9,19 @@
 #include <signal.h>
 #include <time.h>
 
-static atomic_int caught;
+static atomic_bool caught[3]; /* as the numbers below: one that ends isn't lost where another comes at the same time */
+static const int numbers[] = { SIGINT, SIGTERM, SIGQUIT };
 static struct timespec begun;
 
-static void catch(int number) { atomic_store(&caught, number); }
+static void catch(int number) {
+    for (int i = 0; i < 3; i++)
+        if (numbers[i] == number) atomic_store(&caught[i], true);
+}
 
 /* A second signal that ends does so at once. */
 void catch_signals(void) {
-    static const int numbers[] = { SIGINT, SIGTERM, SIGQUIT };
     clock_gettime(CLOCK_MONOTONIC, &begun);
-    for (size_t i = 0; i < sizeof numbers / sizeof numbers[0]; i++) {
+    for (int i = 0; i < 3; i++) {
         struct sigaction before, action = { .sa_handler = catch, .sa_flags = SA_RESTART };
         if (numbers[i] != SIGQUIT) action.sa_flags |= (int)SA_RESETHAND;
         sigemptyset(&action.sa_mask);
@@ -42,10 +45,9 @@ static void end(const char *why, int status) {
 void answer_signals(void) {
     struct timespec now;
     char text[60];
-    int number = atomic_exchange(&caught, 0);
-    if (number == SIGQUIT) tell("SIGQUIT");
-    else if (number == SIGINT) end("SIGINT ends the run", 128 + number);
-    else if (number == SIGTERM) end("SIGTERM ends the run", 128 + number);
+    if (atomic_exchange(&caught[2], false)) tell("SIGQUIT");
+    if (atomic_exchange(&caught[0], false)) end("SIGINT ends the run", 128 + SIGINT);
+    if (atomic_exchange(&caught[1], false)) end("SIGTERM ends the run", 128 + SIGTERM);
     if (the_run.timeout <= 0) return;
     clock_gettime(CLOCK_MONOTONIC, &now);
     double seconds = (double)(now.tv_sec - begun.tv_sec) + (double)(now.tv_nsec - begun.tv_nsec) / 1e9;
