@@ -148,7 +148,7 @@ static int run_ranks(int argc, char **argv, const struct options *options) {
     int size = options->ranks, status = 0;
     const char *program = find_program(argv[options->program]);
     pthread_t thread;
-    struct start starts[MOST_RANKS];
+    static struct start starts[MOST_RANKS]; /* the ranks' words stay as long as the run */
     pthread_attr_t attributes;
     pthread_attr_init(&attributes);
     pthread_attr_setstacksize(&attributes, stack_bytes());

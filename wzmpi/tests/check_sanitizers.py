@@ -1,0 +1,49 @@
+"""The sanitizers, as docs/WZRUN.md says that they are used: for check.py. Nothing is said of the examples, and a program's own mistakes are seen."""
+
+import os
+import pathlib
+import subprocess
+
+from checking import HERE, compiled, reported, run
+
+# Of each sanitizer: its library, the variables that it is run with, and what it says of which case of sanitized.c.
+SANITIZERS = {
+    "address": ("libasan.so", {}, {"overflow": "heap-buffer-overflow", "leak": "LeakSanitizer: detected memory leaks"}),
+    "thread": ("libtsan.so", {"TSAN_OPTIONS": "ignore_noninstrumented_modules=1"}, {"race": "ThreadSanitizer: data race"}),
+}
+RIGHT = ["average.c", "early.c", "hello.cpp"]
+
+
+def library_of(name):
+    """Where gcc has a sanitizer's library; None: it has none."""
+    try:
+        path = subprocess.run(["gcc", f"-print-file-name={name}"], capture_output=True, text=True, check=True).stdout.strip()
+    except (OSError, subprocess.CalledProcessError):
+        return None
+    return path if pathlib.Path(path).is_absolute() else None
+
+
+def check_one(binaries, out, name, library):
+    _, variables, wrong = SANITIZERS[name]
+    environment = {**os.environ, **variables, "LD_PRELOAD": library}
+    failed = 0
+    for source in [HERE.parent / "examples" / it for it in RIGHT] + [HERE / "sanitized.c"]:
+        program = compiled(binaries, source, out / f"{name}_{source.stem}", "-g", f"-fsanitize={name}")
+        status, said = run([str(binaries / "wzrun"), "-n", "3", str(program)], env=environment)
+        failed += reported(status == 0 and "Sanitizer" not in said, f"-fsanitize={name}, {source.name}: status {status}:\n{said[:3000]}")
+    for case, words in wrong.items():
+        status, said = run([str(binaries / "wzrun"), "-n", "3", str(program), case], env=environment)
+        failed += reported(status != 0 and words in said, f"-fsanitize={name}, sanitized {case}: status {status}:\n{said[:3000]}")
+    return failed
+
+
+def check(binaries, out):
+    failed = 0
+    for name, (library, *_) in SANITIZERS.items():
+        path = library_of(library)
+        if path is None:
+            print(f"check.py: gcc has no {library}, so -fsanitize={name} isn't checked")
+            continue
+        failed += check_one(binaries, out, name, path)
+    print("check.py: sanitizers see the program's mistakes and no others" if failed == 0 else f"check.py: {failed} runs with sanitizers failed")
+    return failed
