@@ -60,16 +60,29 @@ static void tell_named(const struct lines *lines, const char *sentence) {
     }
 }
 
-static void tell_line(const struct lines *lines, const char *line) {
+/* A line of colljob's, with "the calls" in place of a file that is removed by the time that it is read. */
+static void tell_text(const char *line, const char *removed) {
+    const char *found;
+    size_t length = removed != NULL ? strlen(removed) : 0;
+    for (; length > 0 && (found = strstr(line, removed)) != NULL; line = found + length) fprintf(stderr, "%.*sthe calls", (int)(found - line), line);
+    fputs(line, stderr);
+}
+
+/* The text has a message as a collective of its ranks, so what is proved of it needn't hold for the program, which has stalled. */
+static bool says_well(const char *line) { return strstr(line, "no run stalls (proved)") != NULL || strstr(line, "never stalls") != NULL; }
+
+static void tell_line(const struct lines *lines, const char *line, const char *removed) {
     const char *place = where(lines, shown(line));
-    fprintf(stderr, "  %s", line);
+    fputs("  ", stderr);
+    tell_text(line, removed);
+    if (says_well(line)) fputs("    # of the calls as the text has them, with messages as collectives: the program has stalled all the same", stderr);
     if (place != NULL) fprintf(stderr, "    # %s", place);
     else if (shown(line) == 0) tell_named(lines, line);
     fputc('\n', stderr);
 }
 
 /* Status 0 says that the text has no fault, or never stalls: then it hasn't what is wrong with the program. */
-static void run_colljob(const char *colljob, const char *words, const char *path) {
+static void run_colljob(const char *colljob, const char *words, const char *path, bool removed) {
     char command[2 * 4096 + 100];
     FILE *text = fopen(path, "r");
     struct lines lines = read_lines(text);
@@ -81,8 +94,8 @@ static void run_colljob(const char *colljob, const char *words, const char *path
         fprintf(stderr, "  colljob %s can't tell why: a job text doesn't have what is wrong here\n", words);
         return;
     }
-    fprintf(stderr, "  colljob %s %s says:\n", words, path);
-    for (size_t i = 0; i < answer.many; i++) tell_line(&lines, answer.at[i]);
+    fprintf(stderr, "  colljob %s %s says:\n", words, removed ? "of the calls" : path);
+    for (size_t i = 0; i < answer.many; i++) tell_line(&lines, answer.at[i], removed ? path : NULL);
 }
 
 /* A file of the text that nobody asked for. Whether there is one. */
@@ -104,11 +117,15 @@ void explain_end(const struct question *question) {
         if (path != NULL) fprintf(stderr, "  the calls stand in %s: colljob %s %s\n", path, question->words, path);
         return;
     }
+    if (colljob != NULL && strchr(colljob, '/') != NULL && access(colljob, X_OK) != 0) {
+        fprintf(stderr, "  --explain: COLLJOB names %s, which isn't there or can't be run\n", colljob);
+        return;
+    }
     if (path == NULL && !write_own(own)) return;
     if (path == NULL) path = own;
     if (colljob == NULL && system("command -v colljob > /dev/null 2>&1") == 0) colljob = "colljob";
     if (colljob != NULL) {
-        run_colljob(colljob, question->words, path);
+        run_colljob(colljob, question->words, path, path == own);
         if (path == own) unlink(own);
     } else fprintf(stderr, "  the calls stand in %s; with colljob in PATH, or its path in COLLJOB: colljob %s %s\n", path, question->words, path);
 }
