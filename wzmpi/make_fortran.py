@@ -26,7 +26,8 @@ WEIGHTS = {"sourceweights", "destweights", "weights"}
 ADDRESSES = {"baseptr"}
 # What is written by hand: src/fortran_calls.c has the calls; here are the parameters that a module declares.
 OWN = {
-    "Init": "", "Init_thread": "integer required; integer provided", "Pcontrol": "integer level",
+    "Init": "", "Info_create_env": "MPI_Info info", "Info_get_string": "MPI_Info info; character key; integer buflen; character value; logical flag",
+    "Grequest_start": "external query; external free_; external cancel; integer8 extra; MPI_Request request", "Init_thread": "integer required; integer provided", "Pcontrol": "integer level",
     "Buffer_detach": "choice buffer; integer size",
     "Comm_create_keyval": "external copy; external delete_; integer keyval; integer8 extra", "Win_create_keyval": "external copy; external delete_; integer keyval; integer8 extra",
     "Type_create_keyval": "external copy; external delete_; integer keyval; integer8 extra",
@@ -108,6 +109,8 @@ def converted(call, parameter, first):
     if name in WEIGHTS:
         return f"int *{name}", [], f"in_weights({name})", []
     if name in ("index", "indices") and not parameter.constant:
+        if parameter.array and name == "index":
+            return f"int *{name}", [], name, []
         after = [f"if (*{name} >= 0) ++*{name};"] if name == "index" else [f"for (int i = 0; i < *outcount; i++) {name}[i]++;"]
         return f"int *{name}", [], name, after
     if "[3]" in parameter.text:
@@ -220,12 +223,21 @@ def declared(call, parameter, f08):
     return [f"integer({KINDS[base]}) :: {name_in}{shape}"]
 
 
+def is_list(parameter):
+    """Counts, displacements and types of each rank, in whose place programs write 0 where they don't matter."""
+    return parameter.array and parameter.base in ("COUNTS", "PLACES", "MPI_Datatype", "MPI_Aint")
+
+
+def unchecked(parameter):
+    return [f"!GCC$ ATTRIBUTES NO_ARG_CHECK :: {parameter.name}", f"type(*), dimension(*) :: {parameter.name}"]
+
+
 def own_declared(text, f08):
     """Names and declarations of a call that OWN has."""
     for word in filter(None, text.split("; ")):
         kind, name = word.split()
         name = name.rstrip("_")
-        lines = {"integer": [f"integer :: {name}"], "integer8": [f"integer(8) :: {name}"], "logical": [f"logical :: {name}"], "external": [f"external :: {name}"],
+        lines = {"integer": [f"integer :: {name}"], "integer8": [f"integer(8) :: {name}"], "logical": [f"logical :: {name}"], "external": [f"external :: {name}"], "character": [f"character(len=*) :: {name}"],
                  "choice": [f"!GCC$ ATTRIBUTES NO_ARG_CHECK :: {name}", f"type(*), dimension(*) :: {name}"]}
         yield name, lines.get(kind) or [f"type({kind}) :: {name}" if f08 else f"integer :: {name}"]
 
@@ -244,7 +256,8 @@ def interface(name, parameters, result, f08, prefix="MPI_"):
     if name in OWN:
         parts = list(own_declared(OWN[name], f08))
     else:
-        parts = [(it.name.rstrip("_"), declared(name, it, f08)) for it in parameters]
+        moves = any(it.base == "void" and it.pointer for it in parameters)
+        parts = [(it.name.rstrip("_"), unchecked(it) if moves and not f08 and is_list(it) else declared(name, it, f08)) for it in parameters]
     names = [it[0] for it in parts]
     lines = [line for it in parts for line in it[1]]
     if result != "int":
@@ -281,6 +294,29 @@ def module_mpi(calls):
 
 
 TYPES = [*HANDLES, "MPI_Datatype"]
+# The program's functions, as mpi_f08 declares them: name, and parameters with their types.
+FUNCTION_TYPES = {
+    "MPI_User_function": [("invec", "type(c_ptr), value"), ("inoutvec", "type(c_ptr), value"), ("len", "integer"), ("datatype", "type(MPI_Datatype)")],
+    **{f"MPI_{it}_errhandler_function": [("handle", f"type(MPI_{it})"), ("error_code", "integer")] for it in ("Comm", "Win", "File")},
+    **{f"MPI_{it}_copy_attr_function": [("old", f"type(MPI_{of})"), ("keyval", "integer"), ("extra_state", "integer(8)"), ("attribute_val_in", "integer(8)"),
+                                        ("attribute_val_out", "integer(8)"), ("flag", "logical"), ("ierror", "integer")]
+       for it, of in (("Comm", "Comm"), ("Win", "Win"), ("Type", "Datatype"))},
+    **{f"MPI_{it}_delete_attr_function": [("handle", f"type(MPI_{of})"), ("keyval", "integer"), ("attribute_val", "integer(8)"), ("extra_state", "integer(8)"), ("ierror", "integer")]
+       for it, of in (("Comm", "Comm"), ("Win", "Win"), ("Type", "Datatype"))},
+    "MPI_Grequest_query_function": [("extra_state", "integer(8)"), ("status", "type(MPI_Status)"), ("ierror", "integer")],
+    "MPI_Grequest_free_function": [("extra_state", "integer(8)"), ("ierror", "integer")],
+    "MPI_Grequest_cancel_function": [("extra_state", "integer(8)"), ("complete", "logical"), ("ierror", "integer")],
+}
+
+
+def function_types():
+    yield "  abstract interface"
+    for name, parameters in FUNCTION_TYPES.items():
+        yield from broken(f"  subroutine {name}({', '.join(it for it, _ in parameters)})")
+        yield "    import"
+        yield from (f"    {of} :: {it}" for it, of in parameters)
+        yield "  end subroutine"
+    yield "  end interface"
 
 
 def module_f08(calls, known):
@@ -302,7 +338,7 @@ def module_f08(calls, known):
     for sign, word in (("==", "same"), ("/=", "other")):
         lines += [f"  interface operator({sign})", *(f"    module procedure wz_{word}_{it}" for it in TYPES), "  end interface"]
     lines += ["  interface MPI_Status_f2f08", "    module procedure wz_status_f2f08", "  end interface", "  interface MPI_Status_f082f", "    module procedure wz_status_f082f", "  end interface"]
-    lines.append("  interface")
+    lines += [*function_types(), "  interface"]
     for call, name, parameters in calls:
         for prefix in ("MPI_", "PMPI_"):
             lines += interface(name, parameters, call.result.strip(), True, prefix)

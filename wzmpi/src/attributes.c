@@ -33,7 +33,16 @@ typedef void fortran_delete(int *handle, int *keyval, MPI_Aint *value, MPI_Aint 
 typedef void old_fortran_copy(int *handle, int *keyval, int *extra, int *value, int *copied, int *flag, int *code);
 typedef void old_fortran_delete(int *handle, int *keyval, int *value, int *extra, int *code);
 
-static int call_copy(const struct keyval *keyval, MPI_Comm handle, int number, void *value, void **copied, int *flag) {
+/* Set around the calls that Fortran makes. */
+static __thread bool called_by_fortran;
+
+void speak_fortran(bool begin) { called_by_fortran = begin; }
+
+static void *value_for(struct attribute *attribute, bool fortran) { return attribute->of_fortran && !fortran ? &attribute->value : attribute->value; }
+
+static int call_copy(const struct keyval *keyval, MPI_Comm handle, struct attribute *attribute, void **copied, int *flag) {
+    int number = attribute->keyval;
+    void *value = value_for(attribute, keyval->language != IN_C);
     int short_handle = to_fortran(handle), code = MPI_SUCCESS, extra = (int)(intptr_t)keyval->extra, old = (int)(intptr_t)value, new = 0;
     MPI_Aint wide_extra = (MPI_Aint)keyval->extra, wide = (MPI_Aint)value, made = 0;
     if (keyval->copy == NULL) return code;
@@ -44,7 +53,9 @@ static int call_copy(const struct keyval *keyval, MPI_Comm handle, int number, v
     return code;
 }
 
-static int call_delete(const struct keyval *keyval, MPI_Comm handle, int number, void *value) {
+static int call_delete(const struct keyval *keyval, MPI_Comm handle, struct attribute *attribute) {
+    int number = attribute->keyval;
+    void *value = value_for(attribute, keyval->language != IN_C);
     int short_handle = to_fortran(handle), code = MPI_SUCCESS, extra = (int)(intptr_t)keyval->extra, old = (int)(intptr_t)value;
     MPI_Aint wide_extra = (MPI_Aint)keyval->extra, wide = (MPI_Aint)value;
     if (keyval->delete == NULL) return code;
@@ -85,7 +96,7 @@ static int judge_keyval(struct comm *comm, int number, const char *call) {
 
 static int delete_one(MPI_Comm handle, struct attribute **at) {
     struct attribute *attribute = *at;
-    int code = call_delete(keyval_of(attribute->keyval), handle, attribute->keyval, attribute->value);
+    int code = call_delete(keyval_of(attribute->keyval), handle, attribute);
     if (code != MPI_SUCCESS) return code;
     *at = attribute->next;
     free(attribute);
@@ -99,7 +110,7 @@ int set_attribute(const struct attributed *of, int number, void *value, const ch
     if (*at != NULL) code = delete_one(of->handle, at);
     if (code != MPI_SUCCESS) return code;
     struct attribute *attribute = must(malloc(sizeof *attribute));
-    *attribute = (struct attribute){ number, value, *of->list };
+    *attribute = (struct attribute){ number, called_by_fortran, value, *of->list };
     *of->list = attribute;
     return code;
 }
@@ -128,7 +139,7 @@ int get_attribute(const struct attributed *of, int number, void *value, int *fla
     if (code != MPI_SUCCESS) return code;
     struct attribute *attribute = *find(of->list, number);
     *flag = attribute != NULL;
-    if (attribute != NULL) *(void **)value = attribute->value;
+    if (attribute != NULL) *(void **)value = value_for(attribute, called_by_fortran);
     return code;
 }
 
@@ -187,11 +198,13 @@ int MPI_Attr_delete(MPI_Comm handle, int number) { return delete_attr(handle, nu
 int copy_list(const struct attributed *from, struct attribute **to) {
     for (struct attribute *attribute = *from->list; attribute != NULL; attribute = attribute->next) {
         void *copied = NULL;
-        int flag = 0, code = call_copy(keyval_of(attribute->keyval), from->handle, attribute->keyval, attribute->value, &copied, &flag);
+        const struct keyval *keyval = keyval_of(attribute->keyval);
+        int flag = 0, code = call_copy(keyval, from->handle, attribute, &copied, &flag);
         if (code != MPI_SUCCESS) return code;
         if (!flag) continue;
+        bool as_it_is = copied == &attribute->value; /* as MPI_COMM_DUP_FN of C copies it */
         struct attribute *copy = must(malloc(sizeof *copy));
-        *copy = (struct attribute){ attribute->keyval, copied, *to };
+        *copy = (struct attribute){ attribute->keyval, as_it_is || keyval->language != IN_C, as_it_is ? attribute->value : copied, *to };
         *to = copy;
     }
     return MPI_SUCCESS;

@@ -7,6 +7,7 @@
 /* Whose copy and delete functions a key has: those of C, of Fortran with addresses as values, or of Fortran's MPI 1 with default integers (MPI 4.1, 19.3.7). */
 enum language { IN_C, IN_FORTRAN, IN_OLD_FORTRAN };
 void set_language(int number, enum language language);
+void speak_fortran(bool begin); /* between the two, this thread's calls set and get values as Fortran has them */
 
 int create_keyval(MPI_Comm_copy_attr_function *copy, MPI_Comm_delete_attr_function *delete, int *number, void *extra, const char *call);
 int free_keyval(int *number, const char *call);

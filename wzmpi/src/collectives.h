@@ -40,7 +40,7 @@ struct arguments {
     const char *name; /* NULL: as the function and form say */
 };
 
-enum sort { COLLECTIVE, SENDING, RECEIVING, PROBING, LOCKING, ACCESSING }; /* LOCKING, ACCESSING: of a window */
+enum sort { COLLECTIVE, SENDING, RECEIVING, PROBING, LOCKING, ACCESSING, GENERALIZED }; /* LOCKING, ACCESSING: of a window */
 
 struct message;
 

@@ -67,6 +67,11 @@ int MPI_Comm_idup(MPI_Comm handle, MPI_Comm *made, MPI_Request *request) {
     return copy_attributes(comm, handle, find_comm(*made));
 }
 
+int MPI_Comm_idup_with_info(MPI_Comm handle, MPI_Info info, MPI_Comm *made, MPI_Request *request) {
+    (void)info;
+    return MPI_Comm_idup(handle, made, request);
+}
+
 /* ---- MPI_Comm_split */
 
 struct split {

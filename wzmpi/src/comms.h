@@ -40,6 +40,7 @@ struct errhandler {
 
 struct attribute {
     int keyval;
+    bool of_fortran; /* a number that Fortran has given, of which C gets the address (MPI 4.1, 19.3.7) */
     void *value;
     struct attribute *next;
 };

@@ -2,6 +2,7 @@
 #include "fortran.h"
 
 #include "attributes.h"
+#include "generalized.h"
 
 /* ---- words at addresses */
 
@@ -66,6 +67,34 @@ void mpi_buffer_detach_(void *buffer, int *size, int *ierror) {
     END(MPI_Buffer_detach(&detached, size));
 }
 
+void mpi_info_create_env_(int *info, int *ierror) {
+    MPI_Info made = MPI_INFO_NULL;
+    BEGIN();
+    int code = MPI_Info_create_env(0, NULL, &made);
+    *info = to_fortran(made);
+    END(code);
+}
+
+/* The length is without an end (MPI 4.1, 10). */
+void mpi_info_get_string_(int *info, const char *key, int *room, char *value, int *flag, int *ierror, size_t key_length, size_t value_length) {
+    char *own_key = in_string(key, key_length), own[MPI_MAX_INFO_VAL + 1] = UNWRITTEN;
+    int own_room = *room < MPI_MAX_INFO_VAL ? *room + 1 : MPI_MAX_INFO_VAL + 1;
+    BEGIN();
+    int code = MPI_Info_get_string(from_fortran(INFO, *info), own_key, &own_room, own, flag);
+    if (code == MPI_SUCCESS && *flag && *room > 0) out_string(value, value_length, own);
+    if (code == MPI_SUCCESS && *flag) *room = own_room - 1;
+    free(own_key);
+    END(code);
+}
+
+void mpi_grequest_start_(void (*query)(void), void (*release)(void), void (*cancel)(void), MPI_Aint *extra, int *request, int *ierror) {
+    MPI_Request made = MPI_REQUEST_NULL;
+    BEGIN();
+    int code = start_fortran_generalized(query, release, cancel, *extra, &made);
+    *request = to_fortran(made);
+    END(code);
+}
+
 /* ---- attributes (MPI 4.1, 19.3.7): those of the library are values, which C has addresses of */
 
 static void make_key(int code, int *keyval, enum language language, int *ierror) {
@@ -95,30 +124,44 @@ void mpi_keyval_create_(void (*copy)(void), void (*delete)(void), int *keyval, i
 
 void mpi_comm_set_attr_(int *comm, int *keyval, MPI_Aint *value, int *ierror) {
     BEGIN();
-    END(MPI_Comm_set_attr(from_fortran(COMM, *comm), *keyval, (void *)*value));
+    speak_fortran(true);
+    int code = MPI_Comm_set_attr(from_fortran(COMM, *comm), *keyval, (void *)*value);
+    speak_fortran(false);
+    END(code);
 }
 
 void mpi_win_set_attr_(int *win, int *keyval, MPI_Aint *value, int *ierror) {
     BEGIN();
-    END(MPI_Win_set_attr(from_fortran(WINDOW, *win), *keyval, (void *)*value));
+    speak_fortran(true);
+    int code = MPI_Win_set_attr(from_fortran(WINDOW, *win), *keyval, (void *)*value);
+    speak_fortran(false);
+    END(code);
 }
 
 void mpi_type_set_attr_(int *type, int *keyval, MPI_Aint *value, int *ierror) {
     BEGIN();
-    END(MPI_Type_set_attr(*type, *keyval, (void *)*value));
+    speak_fortran(true);
+    int code = MPI_Type_set_attr(*type, *keyval, (void *)*value);
+    speak_fortran(false);
+    END(code);
 }
 
 void mpi_type_get_attr_(int *type, int *keyval, MPI_Aint *value, int *flag, int *ierror) {
     void *got = NULL;
     BEGIN();
+    speak_fortran(true);
     int code = MPI_Type_get_attr(*type, *keyval, &got, flag);
+    speak_fortran(false);
     if (code == MPI_SUCCESS && *flag) *value = (MPI_Aint)got;
     END(code);
 }
 
 void mpi_attr_put_(int *comm, int *keyval, int *value, int *ierror) {
     BEGIN();
-    END(MPI_Attr_put(from_fortran(COMM, *comm), *keyval, (void *)(intptr_t)*value));
+    speak_fortran(true);
+    int code = MPI_Attr_put(from_fortran(COMM, *comm), *keyval, (void *)(intptr_t)*value);
+    speak_fortran(false);
+    END(code);
 }
 
 static MPI_Aint comm_value(int keyval, void *value) { return keyval >= MPI_TAG_UB && keyval <= MPI_APPNUM ? *(int *)value : (MPI_Aint)value; }
@@ -126,7 +169,9 @@ static MPI_Aint comm_value(int keyval, void *value) { return keyval >= MPI_TAG_U
 void mpi_comm_get_attr_(int *comm, int *keyval, MPI_Aint *value, int *flag, int *ierror) {
     void *got = NULL;
     BEGIN();
+    speak_fortran(true);
     int code = MPI_Comm_get_attr(from_fortran(COMM, *comm), *keyval, &got, flag);
+    speak_fortran(false);
     if (code == MPI_SUCCESS && *flag) *value = comm_value(*keyval, got);
     END(code);
 }
@@ -134,7 +179,9 @@ void mpi_comm_get_attr_(int *comm, int *keyval, MPI_Aint *value, int *flag, int 
 void mpi_attr_get_(int *comm, int *keyval, int *value, int *flag, int *ierror) {
     void *got = NULL;
     BEGIN();
+    speak_fortran(true);
     int code = MPI_Attr_get(from_fortran(COMM, *comm), *keyval, &got, flag);
+    speak_fortran(false);
     if (code == MPI_SUCCESS && *flag) *value = (int)comm_value(*keyval, got);
     END(code);
 }
@@ -142,7 +189,9 @@ void mpi_attr_get_(int *comm, int *keyval, int *value, int *flag, int *ierror) {
 void mpi_win_get_attr_(int *win, int *keyval, MPI_Aint *value, int *flag, int *ierror) {
     void *got = NULL;
     BEGIN();
+    speak_fortran(true);
     int code = MPI_Win_get_attr(from_fortran(WINDOW, *win), *keyval, &got, flag);
+    speak_fortran(false);
     bool own = *keyval < MPI_WIN_SIZE || *keyval > MPI_WIN_MODEL;
     if (code == MPI_SUCCESS && *flag) *value = own ? (MPI_Aint)got : *keyval == MPI_WIN_SIZE ? *(MPI_Aint *)got : *(int *)got;
     END(code);

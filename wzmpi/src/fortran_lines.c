@@ -241,5 +241,5 @@ static const char *site_of(struct rank *rank, const void *back) {
 void note_fortran_line(const void *back) {
     struct rank *rank = rank_of_code(back);
     if (rank == NULL) return; /* the call itself tells that its thread is no rank's */
-    atomic_store_explicit(&rank->site, site_of(rank, back), memory_order_relaxed);
+    wz_note_line_(site_of(rank, back));
 }

@@ -76,6 +76,24 @@ int MPI_Info_get(MPI_Info handle, const char *key, int room, char *value, int *f
     return code;
 }
 
+/* *ROOM becomes what the value needs, with its end. */
+int MPI_Info_get_string(MPI_Info handle, const char *key, int *room, char *value, int *flag) {
+    int code;
+    struct info *info = known(handle, "MPI_Info_get_string", &code);
+    if (info == NULL) return code;
+    struct entry *entry = *find(info, key);
+    *flag = entry != NULL;
+    if (entry == NULL) return code;
+    if (*room > 0) snprintf(value, (size_t)*room, "%s", entry->value);
+    *room = (int)strlen(entry->value) + 1;
+    return code;
+}
+
+int MPI_Info_create_env(int argc, char *argv[], MPI_Info *made) {
+    (void)argc, (void)argv;
+    return MPI_Info_create(made); /* this library knows nothing of what MPI_INFO_ENV may say */
+}
+
 int MPI_Info_get_valuelen(MPI_Info handle, const char *key, int *length, int *flag) {
     int code;
     struct info *info = known(handle, "MPI_Info_get_valuelen", &code);

@@ -5,6 +5,7 @@
 #include "overlap.h"
 #include "trace.h"
 #include "diagnostics.h"
+#include "generalized.h"
 #include "window.h"
 
 int start_message(struct request *request) {
@@ -56,6 +57,10 @@ static int judge_message(const struct request *request, const struct message *me
 }
 
 void show_status(const struct request *request, MPI_Status *status) {
+    if (request->sort == GENERALIZED) {
+        query_generalized(request, status);
+        return;
+    }
     clear_status(status);
     if (request->sort == RECEIVING && !request->cancelled) write_status(status, request->message);
     if (status != MPI_STATUS_IGNORE) status->cancelled_ = request->sort != COLLECTIVE && request->cancelled;
@@ -73,6 +78,7 @@ static int receive_message(struct request *request, const char *call) {
 int finish_message(struct request *request, MPI_Status *status, const char *call) {
     note_progress();
     if (request->sort == ACCESSING) return finish_access(request, status);
+    if (request->sort == GENERALIZED) return finish_generalized(request, status);
     const char *changed = end_loan(request);
     show_status(request, status);
     int code = request->sort == RECEIVING ? receive_message(request, call) : MPI_SUCCESS;
@@ -202,6 +208,8 @@ int counted_Irsend(SEND_WORDS, MPI_Request *request) { return nonblocking(SENT("
 int counted_Ibsend(SEND_WORDS, MPI_Request *request) { return nonblocking(SENT("MPI_Ibsend"), SENDING, false, request); }
 int counted_Send_init(SEND_WORDS, MPI_Request *request) { return persistent(SENT("MPI_Send_init"), SENDING, the_run.strict, request); }
 int counted_Ssend_init(SEND_WORDS, MPI_Request *request) { return persistent(SENT("MPI_Ssend_init"), SENDING, true, request); }
+int counted_Rsend_init(SEND_WORDS, MPI_Request *request) { return persistent(SENT("MPI_Rsend_init"), SENDING, the_run.strict, request); }
+int counted_Bsend_init(SEND_WORDS, MPI_Request *request) { return persistent(SENT("MPI_Bsend_init"), SENDING, false, request); }
 int counted_Recv(RECEIVE_WORDS, MPI_Status *status) { return blocking(RECEIVED("MPI_Recv"), RECEIVING, false, status); }
 int counted_Irecv(RECEIVE_WORDS, MPI_Request *request) { return nonblocking(RECEIVED("MPI_Irecv"), RECEIVING, false, request); }
 int counted_Recv_init(RECEIVE_WORDS, MPI_Request *request) { return persistent(RECEIVED("MPI_Recv_init"), RECEIVING, false, request); }

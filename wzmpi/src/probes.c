@@ -2,6 +2,7 @@
 #include "counted.h"
 #include "mailbox.h"
 #include "diagnostics.h"
+#include "generalized.h"
 #include "test_loops.h"
 
 /* A probe as a request that is active, with what it asks for. */
@@ -120,6 +121,7 @@ int MPI_Cancel(MPI_Request *handle) {
     if (code != MPI_SUCCESS) return code;
     if (request == NULL) return refuse(NULL, MPI_ERR_REQUEST, call, "the request is MPI_REQUEST_NULL");
     if (request->sort == COLLECTIVE) return refuse(request->comm, MPI_ERR_REQUEST, call, "the request of %s is a collective's, which can't be cancelled (MPI 4.1, 6.12)", request->site);
+    if (request->sort == GENERALIZED) return cancel_generalized(request);
     if (request->sort == ACCESSING) return refuse(request->comm, MPI_ERR_REQUEST, call, "the request of %s at %s is a window's or a file's, which can't be cancelled", request->name, request->site);
     if (!request->active) return refuse(request->comm, MPI_ERR_REQUEST, call, "the request of %s isn't active", request->site);
     if (request->other == MPI_PROC_NULL) return MPI_SUCCESS;

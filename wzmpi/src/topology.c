@@ -309,6 +309,47 @@ int MPI_Graph_neighbors(MPI_Comm handle, int rank, int most, int neighbors[]) {
     return code;
 }
 
+int MPI_Graphdims_get(MPI_Comm handle, int *nodes, int *edges) {
+    int code;
+    const struct topology *topology = known(handle, MPI_GRAPH, "MPI_Graphdims_get", &code);
+    if (topology == NULL) return code;
+    *nodes = topology->nodes;
+    *edges = topology->nodes > 0 ? topology->index[topology->nodes - 1] : 0;
+    return code;
+}
+
+int MPI_Graph_get(MPI_Comm handle, int most_nodes, int most_edges, int index[], int edges[]) {
+    int code;
+    const struct topology *topology = known(handle, MPI_GRAPH, "MPI_Graph_get", &code);
+    if (topology == NULL) return code;
+    int many = topology->nodes > 0 ? topology->index[topology->nodes - 1] : 0;
+    for (int i = 0; i < topology->nodes && i < most_nodes; i++) index[i] = topology->index[i];
+    for (int i = 0; i < many && i < most_edges; i++) edges[i] = topology->edges[i];
+    return code;
+}
+
+/* Ranks are never put in another order. */
+static int map(MPI_Comm handle, int nodes, int *rank, const char *call) {
+    int code;
+    struct comm *comm = judged(handle, call, &code);
+    if (comm == NULL) return code;
+    if (nodes < 0 || nodes > comm->size) return refuse(comm, MPI_ERR_ARG, call, "the topology has %d places, and the communicator %d ranks", nodes, comm->size);
+    *rank = my_member(comm) < nodes ? my_member(comm) : MPI_UNDEFINED;
+    return code;
+}
+
+int MPI_Cart_map(MPI_Comm handle, int dimensions, const int sizes[], const int periods[], int *rank) {
+    int nodes = 1;
+    (void)periods;
+    for (int i = 0; i < dimensions; i++) nodes *= sizes[i];
+    return map(handle, nodes, rank, "MPI_Cart_map");
+}
+
+int MPI_Graph_map(MPI_Comm handle, int nodes, const int index[], const int edges[], int *rank) {
+    (void)index, (void)edges;
+    return map(handle, nodes, rank, "MPI_Graph_map");
+}
+
 static int judge_neighbors(struct comm *comm, int many, const int *neighbors, const char *call) {
     if (many < 0) return refuse(comm, MPI_ERR_ARG, call, "the number %d of neighbours is negative", many);
     for (int i = 0; i < many; i++)

@@ -73,6 +73,7 @@ static bool has_called(const struct request *request, int member) {
 uint64_t lacking(const struct request *request) {
     uint64_t ranks = 0;
     if (request->sort == LOCKING) return lock_holders(request);
+    if (request->sort == ACCESSING || request->sort == GENERALIZED) return 0; /* it waits for no call of another rank */
     if (request->sort != COLLECTIVE) {
         int other, far = far_group_from(request->comm, request->member, &other); /* the watching thread is no rank */
         int first = request->other == MPI_ANY_SOURCE ? 0 : request->other, last = request->other == MPI_ANY_SOURCE ? far - 1 : request->other;

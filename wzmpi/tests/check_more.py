@@ -1,9 +1,10 @@
 #!/usr/bin/env python3
-"""Runs the tests of windows and files over the tools in a folder, as tests/check.py does those of the rest:
+"""Runs the tests of windows, files and what else came later over the tools in a folder, as tests/check.py does those of the rest:
 
     tests/check_more.py BIN [--write] [--only WORD ..]
 
-NAME.c has programs without a mistake, NAME_wrong.c programs with one planted mistake each, and NAME_wrong.want what is said of them.
+NAME.c has programs without a mistake, and NAME_wrong.c, where it is there, programs with one planted mistake each, of which NAME_wrong.want
+says what is said.
 --write writes what is said anew: read what changed. Ends with 0 where all is as it should be.
 """
 
@@ -21,7 +22,7 @@ OPTIONS = {
     "windows_wrong": {"two_operations": "-n 3 --strict", "put_store": "-n 3 --check", "changed_origin": "-n 3 --check", "changed_result": "-n 3 --check"},
 }
 # How many ranks the right programs of a source are run with.
-RANKS = {"windows": [1, 2, 5], "files": [1, 2, 5]}
+RANKS = {"windows": [1, 2, 5], "files": [1, 2, 5], "more": [1, 2, 5]}
 MODES = ([], ["--strict", "--check"], ["--seed", "7"])
 
 
@@ -43,6 +44,8 @@ def wrong_blocks(binaries, program, source, only):
 
 def check_wrong(binaries, out, stem, only, write):
     source = HERE / f"{stem}_wrong.c"
+    if not source.exists():
+        return 0
     program = checking.compiled(binaries, source, out / source.stem)
     return check.compare(dict(wrong_blocks(binaries, program, source, only)), source.with_suffix(".want"), write, "reported")
 

@@ -2,7 +2,7 @@
 program newest
   use mpi_f08
   implicit none
-  integer :: rank, size
+  integer :: rank, size, handled
   character(len=20) :: name
   call MPI_Init()
   call MPI_Comm_rank(MPI_COMM_WORLD, rank)
@@ -12,6 +12,7 @@ program newest
   case ('handles'); call handles
   case ('statuses'); call statuses
   case ('operations'); call operations
+  case ('handlers'); call handlers
   end select
   call MPI_Finalize()
 contains
@@ -60,7 +61,30 @@ contains
     call holds(f(1) == status%MPI_SOURCE, 12)
   end subroutine
 
+  subroutine handlers
+    procedure(MPI_Comm_errhandler_function), pointer :: function
+    type(MPI_Errhandler) :: handler
+    type(MPI_Comm) :: copy
+    integer :: code
+    function => note_error
+    handled = 0
+    call MPI_Comm_dup(MPI_COMM_WORLD, copy)
+    call MPI_Comm_create_errhandler(function, handler)
+    call MPI_Comm_set_errhandler(copy, handler)
+    call MPI_Send(code, 1, MPI_INTEGER, size, 0, copy, code)
+    call holds(code == MPI_ERR_RANK .and. handled == MPI_ERR_RANK, 30)
+    call MPI_Errhandler_free(handler)
+    call MPI_Comm_free(copy)
+  end subroutine
+
+  subroutine note_error(comm, code)
+    type(MPI_Comm) :: comm
+    integer :: code
+    if (comm /= MPI_COMM_WORLD) handled = code
+  end subroutine
+
   subroutine operations
+    procedure(MPI_User_function) :: added
     type(MPI_Op) :: op
     integer :: i, got
     call MPI_Op_create(added, .true., op)
@@ -71,9 +95,12 @@ contains
     call holds(i == size - 1, 21)
     call MPI_Op_free(op)
   end subroutine
+end program
 
   subroutine added(in, inout, length, datatype)
     use, intrinsic :: iso_c_binding
+    use mpi_f08
+    implicit none
     type(c_ptr), value :: in, inout
     integer :: length
     type(MPI_Datatype) :: datatype
@@ -83,4 +110,3 @@ contains
     call c_f_pointer(inout, b, [length])
     b = a + b
   end subroutine
-end program
