@@ -210,11 +210,12 @@ def watched(run, folder, words, teller):
         why, found = ended.why, ended.report
     except Interrupted as signalled:
         why, number = f"ended by {signal.Signals(signalled.number).name}", signalled.number
-    # A second signal ends the waiting for the launcher's end.
-    for it in (signal.SIGINT, signal.SIGTERM, signal.SIGHUP):
-        signal.signal(it, signal.SIG_DFL)
-    end(run, number)
-    teller.clear()
+    finally:
+        # A second signal ends the waiting for the launcher's end.
+        for it in (signal.SIGINT, signal.SIGTERM, signal.SIGHUP):
+            signal.signal(it, signal.SIG_DFL)
+        end(run, number)
+        teller.clear()
     return why, found
 
 

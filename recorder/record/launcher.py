@@ -16,6 +16,9 @@ WORDS = {"openmpi": "Open MPI", "mpich": "MPICH"}
 # What the launchers of each library say of themselves. Intel's and MVAPICH's libraries have MPICH's handles.
 SAYS = {"openmpi": re.compile(r"Open ?MPI|OpenRTE|PRRTE|prterun", re.I), "mpich": re.compile(r"HYDRA|MPICH|Intel\(R\) MPI|MVAPICH", re.I)}
 
+# A launcher by its name. No other command is asked for its version: it may be a script that knows no such word, and begins to work.
+LAUNCHERS = re.compile(r"(mpirun|mpiexec|orterun|prterun)([.\-_].*)?")
+
 # The macros by which a compiler's mpi.h is known.
 MACROS = {"openmpi": "OPEN_MPI", "mpich": "MPICH_VERSION"}
 
@@ -38,6 +41,8 @@ def output_of(*words, given=None):
 
 def version_of(launcher):
     """Of which library a launcher is, and its version; None and an empty word for what is none."""
+    if not LAUNCHERS.fullmatch(os.path.basename(launcher)):
+        return None, ""
     said = output_of(launcher, "--version")
     version = re.search(r"\d+\.\d+(\.\d+)?", said)
     for library, pattern in SAYS.items():

@@ -30,12 +30,16 @@ def compare_message(sent, sent_count, got, got_count):
     runs, room = repeated(sent.runs, sent_count), repeated(got.runs, got_count)
     if runs is None or room is None or is_prefix(runs, room):
         return SAME
-    return SAME if is_prefix([((name,), times) for name, times in classed(runs)], [((name,), times) for name, times in classed(room)]) else DIFFERENT
+    return SAME if is_prefix(classed(runs), classed(room)) else DIFFERENT
 
 
 def is_prefix(runs, room):
-    for place, run in enumerate(runs):
-        if place >= len(room) or run[:-1] != room[place][:-1] or run[-1] > room[place][-1] or run[-1] < room[place][-1] and place < len(runs) - 1:
+    """Whether elements are the first ones of others. A run's last part says how often it stands in a row, and what stands before that what it is."""
+    if len(runs) > len(room):
+        return False
+    for place, (run, there) in enumerate(zip(runs, room)):
+        is_last = place == len(runs) - 1
+        if run[:-1] != there[:-1] or run[-1] > there[-1] or run[-1] < there[-1] and not is_last:
             return False
     return True
 
@@ -107,10 +111,13 @@ class Messages:
             got = self.pair(key, sender, receiver, tag)
             found = self.first_misfit(sent, got) if got else self.sure_misfit(key, sender, receiver, tag, sent)
             if found:
-                number, sent_says, got_says = found
-                head = f"fault: message {number + 1} of rank {sender} to rank {receiver} with tag {tag}{self.on(key)}: what is sent and what is received differ"
-                lines = [f"  rank {sender}: sends {data_words(*sent_says[:2])}, {self.place(sender, sent_says[2])}", f"  rank {receiver}: receives {data_words(*got_says[:2])}, {self.place(receiver, got_says[2])}"]
-                yield head, lines, [sender, receiver]
+                number, (*what, place), (*wanted, wanting) = found
+                head = f"fault: message {number + 1} of rank {sender} to rank {receiver} with tag {tag}{self.on(key)}"
+                lines = [
+                    f"  rank {sender}: sends {data_words(*what)}, {self.place(sender, place)}",
+                    f"  rank {receiver}: receives {data_words(*wanted)}, {self.place(receiver, wanting)}",
+                ]
+                yield f"{head}: what is sent and what is received differ", lines, [sender, receiver]
 
     @staticmethod
     def first_misfit(sent, got):
@@ -165,16 +172,19 @@ class Messages:
             for (sender, tag), number in lost.items():
                 row = self.sends[key, sender, receiver, tag]
                 what = f"{number} messages" if number > 1 else "a message"
+                head = f"warning: rank {sender} sent {what} with tag {tag} to rank {receiver}{self.on(key)} that nobody received"
+                # Of messages that receives for any may have had it isn't known which of them are left.
                 first = "" if self.is_among_any(key, receiver, sender, tag) else f", {self.place_of(sender, row, row.count - number)}"
-                yield f"warning: rank {sender} sent {what} with tag {tag} to rank {receiver}{self.on(key)} that nobody received{first}", self.near_misses(key, sender, receiver, tag), [sender, receiver]
+                yield head + first, self.near_misses(key, sender, receiver, tag), [sender, receiver]
 
     def is_among_any(self, key, receiver, sender, tag):
         return any(row.is_any() for row in self.takers(key, sender, receiver, tag))
 
     def near_misses(self, key, sender, receiver, tag):
         """Receives of the same rank that weren't complete: the tag may be the mistake."""
-        rows = [kind.row for kind in self.left_kinds(receiver) if kind.row.key == key and kind.row.kind == "r" and kind.row.rank in (sender, -1)]
-        return [f"  = rank {receiver} awaited one with tag {row.tag} from rank {sender} that never came" for row in rows[:1] if row.tag not in (tag, -1)]
+        rows = [kind.row for kind in self.left_kinds(receiver) if kind.row.kind == "r" and kind.row.key == key]
+        near = [row for row in rows if row.rank in (sender, -1) and row.tag not in (tag, -1)]
+        return [f"  = rank {receiver} awaited one with tag {row.tag} from rank {sender} that never came" for row in near[:1]]
 
     def left_kinds(self, rank):
         commands = self.records[rank].commands
@@ -186,13 +196,15 @@ class Messages:
             kinds = self.left_kinds(rank)
             for kind in [] if record.unsure else kinds[:1]:
                 row, more = kind.row, f", and {len(kinds) - 1} more" if len(kinds) > 1 else ""
-                words = f"warning: rank {rank} called MPI_Finalize, and no call was seen to complete a {row_words(row)}{self.on(row.key)}, {self.place(rank, kind.place)}{more}"
+                what = f"a {row_words(row)}{self.on(row.key)}, {self.place(rank, kind.place)}{more}"
+                words = f"warning: rank {rank} called MPI_Finalize, and no call was seen to complete {what}"
                 yield words, ["  = MPI wants it complete before (MPI 4.1, 11.2.2)"], [rank]
 
 
     def notes(self):
         """What a text of the records can't show, each in a line: faults and warnings of messages, and a stall where sends wait."""
-        notes = ["; ".join([words, *(line.strip() for line in lines)]) for words, lines, _ in itertools.islice(itertools.chain(self.type_faults(), self.lost(), self.left()), MOST_NOTED)]
+        found = itertools.islice(itertools.chain(self.type_faults(), self.lost(), self.left()), MOST_NOTED)
+        notes = ["; ".join([words, *(line.strip() for line in lines)]) for words, lines, _ in found]
         run = MessageStalls(self.records, self.contexts, self) if self.any_there() and not self.why else None
         if run and run.stuck:
             notes.append(f"{STALLS} " + "; ".join(line.strip() for line in run.lines(self.places)))

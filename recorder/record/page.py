@@ -23,8 +23,9 @@ def page(data):
     """The whole page."""
     with open(os.path.join(HERE, "page.html"), encoding="utf-8") as file:
         fixed = file.read()
+    text = json.dumps(data, ensure_ascii=False, separators=(",", ":"))
     # In a script no text may end it.
-    return fixed.replace("@DATA@", json.dumps(data, ensure_ascii=False, separators=(",", ":")).replace("</", "<\\/").replace("<!", "<\\u0021"))
+    return fixed.replace("@DATA@", text.replace("</", "<\\/").replace("<!", "<\\u0021"))
 
 
 def tone_of(kind):
@@ -32,7 +33,8 @@ def tone_of(kind):
 
 
 def empty_page(title, about, verdict, tone):
-    return {"title": title, "about": about, "verdict": verdict, "tone": tone, "findings": [], "waiting": [], "waits": [], "bars": [], "arrows": [], "tables": []}
+    parts = {name: [] for name in ("findings", "waiting", "waits", "bars", "arrows", "tables")}
+    return {"title": title, "about": about, "verdict": verdict, "tone": tone, **parts}
 
 
 def numbered(micros):
@@ -46,7 +48,8 @@ def numbered(micros):
 def page_of_report(report):
     """The page of a folder of records."""
     verdict = next((it.words for it in reversed(report.findings) if it.kind in BAD | {"verdict"}), "")
-    data = empty_page(f"wzrecord: {report.folder}", f"{report.size} ranks, {report.calls():,} collective calls", verdict, TONES[report.status])
+    about = f"{report.size} ranks, {report.calls():,} collective calls"
+    data = empty_page(f"wzrecord: {report.folder}", about, verdict, TONES[report.status])
     data["findings"] = [{"words": it.words, "lines": it.lines, "tone": tone_of(it.kind)} for it in report.findings if it.kind != "record"]
     add_waits(data, report)
     add_times(data, report)
@@ -58,12 +61,25 @@ def add_waits(data, report):
     waits = next((it.fields["waits"] for it in report.findings if it.fields.get("waits")), {})
     edges = [(int(rank), other) for rank, others in waits.items() for other in others]
     for rank in sorted({it for edge in edges for it in edge}):
-        # (A rank that is shown in a stall of another library isn't under way.)
-        lines = report.standings.rank_lines(rank) if rank in report.standings.now and rank in report.standings.open else []
         over = rank in report.records and report.records[rank].ended and str(rank) not in waits
-        words = re.sub(r"^in ", "", lines[0].split(", for ")[0].split(": ")[0]) if lines else "came to MPI_Finalize" if over else report.where_stuck(rank)
-        data["waiting"].append({"rank": rank, "words": words, "over": over})
+        data["waiting"].append({"rank": rank, "words": "came to MPI_Finalize" if over else stands(report, rank), "over": over})
     data["waits"] = edges
+
+
+def stands(report, rank):
+    """Where a rank waits, in short: now, or in the run of a library that stalls."""
+    if rank not in report.standings.open:
+        return report.where_stuck(rank)
+    words = report.standings.rank_lines(rank)[0].split(", for ")[0].split(": ")[0]
+    return re.sub(r"^in ", "", words)
+
+
+def place_of(report, call):
+    return report.places.name(report.records[call.rank], call.place) or "place unknown"
+
+
+def whom(report, call):
+    return f"rank {call.rank}: {call.name}, {place_of(report, call)}"
 
 
 def add_times(data, report):
@@ -79,10 +95,10 @@ def add_times(data, report):
     for call in calls:
         until, last = meetings.waits(call)
         waited[id(call)] = until, last
-        place = report.places.name(report.records[call.rank], call.place) or "place unknown"
-        words = words_of(report, call, until, last)
-        data["bars"].append([call.rank, 0, micros(call.begun - first), micros(call.ended - first), "call" if call.is_over else "stuck", call.name, place, words, micros(until - first)])
-        row = lost[call.name, place]
+        begun, ended, waited_to = (micros(it - first) for it in (call.begun, call.ended, until))
+        kind, words = "call" if call.is_over else "stuck", words_of(report, call, last)
+        data["bars"].append([call.rank, 0, begun, ended, kind, call.name, place_of(report, call), words, waited_to])
+        row = lost[call.name, place_of(report, call)]
         row[0] += 1
         row[1] += call.ended - call.begun
         row[2] += until - call.begun
@@ -95,55 +111,66 @@ def micros(nanoseconds):
     return round(nanoseconds / 1000, 1)
 
 
-def words_of(report, call, until, last):
+def words_of(report, call, last):
     """What a call made or waited for, and whom it waited for."""
     found = []
     for awaited in call.awaited:
         command = report.standings.command(call.rank, awaited) if awaited.kind == 1 else None
         if command:
             record = report.records[call.rank]
-            found.append(f"{call_words(command.call, lambda op, record=record: report.contexts.operation_words(record, op))}: call {awaited.index + 1} on {report.contexts.name(command.key)}")
+            words = call_words(command.call, lambda op, record=record: report.contexts.operation_words(record, op))
+            found.append(f"{words}: call {awaited.index + 1} on {report.contexts.name(command.key)}")
         elif awaited.kind in (2, 3):
             found.append(("a receive " if awaited.kind == 2 else "a send ") + report.standings.message_words(call.rank, awaited))
     if last:
-        found.append(f"waited for rank {last.rank}: {last.name}, {report.places.name(report.records[last.rank], last.place) or 'place unknown'}")
+        found.append(f"waited for {whom(report, last)}")
     return "\n".join(found)
 
 
 def add_arrows(data, meetings, waited, calls, first):
-    """A message's arrow goes from its send to the end of the call that received it; a collective's from its last member to those that waited for it."""
+    """A message's arrow goes from its send to the end of the call that received it, a collective's from its last member to those that waited for
+    it."""
     for key, ends in meetings.ends.items():
         for call, kind in ends:
             if key[0] == "message" and kind == 2:
                 sent = meetings.posted[key].get((key[2], 3))
                 if sent and call.is_over:
-                    data["arrows"].append([key[2], micros(sent.begun - first), key[3], micros(max(call.ended, sent.begun) - first), "message"])
+                    ended = max(call.ended, sent.begun)
+                    data["arrows"].append([key[2], micros(sent.begun - first), key[3], micros(ended - first), "message"])
             elif key[0] == "collective":
                 until, last = waited[id(call)]
                 if last and last is meetings.last_of(key, call, kind):
                     data["arrows"].append([last.rank, micros(last.begun - first), call.rank, micros(until - first), "meet"])
 
 
+def add_table(data, title, note, head, rows):
+    data["tables"].append({"title": title, "note": note, "head": head, "rows": rows})
+
+
 def add_tables(data, report, calls, waited, lost):
-    rows, spans = [], {}
-    for call in calls:
-        begun, ended, inside, waits, number = spans.get(call.rank, (call.begun, call.ended, 0, 0, 0))
-        spans[call.rank] = min(begun, call.begun), max(ended, call.ended), inside + call.ended - call.begun, waits + waited[id(call)][0] - call.begun, number + 1
-    for rank, (begun, ended, inside, waits, number) in sorted(spans.items()):
-        rows.append([str(rank), f"{number:,}", *(numbered(it / 1000) for it in (inside, waits, max(0, ended - begun - inside)))])
-    data["tables"].append({"title": "By rank", "note": "Milliseconds of the calls whose times are kept.", "head": ["rank", "calls", "in calls", "of it waiting", "elsewhere"], "rows": rows})
-    longest = sorted(((waited[id(it)][0] - it.begun, it) for it in calls), key=lambda it: -it[0])[:MOST_ROWS]
+    note = "Milliseconds of the calls whose times are kept."
+    add_table(data, "By rank", note, ["rank", "calls", "in calls", "of it waiting", "elsewhere"], rows_of_ranks(calls, waited))
+    longest = [(until - call.begun, call, last) for call in calls for until, last in [waited[id(call)]] if until > call.begun]
     rows = []
-    for nanoseconds, call in longest:
-        last = waited[id(call)][1]
-        if nanoseconds > 0:
-            place = report.places.name(report.records[call.rank], call.place) or "place unknown"
-            whom = f"rank {last.rank}: {last.name}, {report.places.name(report.records[last.rank], last.place) or 'place unknown'}" if last else "what never came"
-            rows.append([str(call.rank), call.name, place, numbered(nanoseconds / 1000), whom])
+    for nanoseconds, call, last in sorted(longest, key=lambda it: -it[0])[:MOST_ROWS]:
+        what = whom(report, last) if last else "what never came"
+        rows.append([str(call.rank), call.name, place_of(report, call), numbered(nanoseconds / 1000), what])
     if rows:
-        data["tables"].append({"title": "Longest waits", "note": "", "head": ["rank", "call", "place", "ms", "for"], "rows": rows})
-    rows = [[name, place, f"{row[0]:,}", *(numbered(it / 1000) for it in row[1:])] for (name, place), row in sorted(lost.items(), key=lambda it: -it[1][1])[:MOST_ROWS]]
-    data["tables"].append({"title": "By place", "note": "", "head": ["call", "place", "times", "ms", "of it waiting", "longest wait"], "rows": rows})
+        add_table(data, "Longest waits", "", ["rank", "call", "place", "ms", "for"], rows)
+    most = sorted(lost.items(), key=lambda it: -it[1][1])[:MOST_ROWS]
+    rows = [[name, place, f"{row[0]:,}", *(numbered(it / 1000) for it in row[1:])] for (name, place), row in most]
+    add_table(data, "By place", "", ["call", "place", "times", "ms", "of it waiting", "longest wait"], rows)
+
+
+def rows_of_ranks(calls, waited):
+    rows = []
+    for rank in sorted({call.rank for call in calls}):
+        own = [call for call in calls if call.rank == rank]
+        inside = sum(call.ended - call.begun for call in own)
+        waits = sum(waited[id(call)][0] - call.begun for call in own)
+        elsewhere = max(call.ended for call in own) - min(call.begun for call in own) - inside
+        rows.append([str(rank), f"{len(own):,}", *(numbered(max(0, it) / 1000) for it in (inside, waits, elsewhere))])
+    return rows
 
 
 # Of the files of wzrun and colljob
@@ -216,12 +243,20 @@ def add_explained(data, text, path):
     data["verdict"], data["tone"] = last["headline"], "good" if last["status"] == 0 else "bad"
     stuck = {it["rank"]: it for it in objects if it.get("reason") == "waits"}
     for rank, it in sorted(stuck.items()):
-        lines = [f"  for request {request['req']}, {request['kind']}, line {request['line']}: lacks rank {lack['rank']}" + (f", whose line {lack['line']} stands behind line {lack['behind']}" if lack.get("behind") else "")
-                 for request in it["requests"] for lack in request["lacks"]]
-        data["findings"].append({"words": f"rank {rank} waits in line {it['line']}: {it['command']}", "lines": lines, "tone": "bad"})
+        lines = [lack_words(request, lack) for request in it["requests"] for lack in request["lacks"]]
+        words = f"rank {rank} waits in line {it['line']}: {it['command']}"
+        data["findings"].append({"words": words, "lines": lines, "tone": "bad"})
     shown = last["shortest"] or sorted(stuck)
-    data["waits"] = sorted({(rank, lack["rank"]) for rank in shown if rank in stuck for request in stuck[rank]["requests"] for lack in request["lacks"] if lack["rank"] in shown})
-    data["waiting"] = [{"rank": rank, "words": f"line {stuck[rank]['line']}: {stuck[rank]['command']}" if rank in stuck else "", "over": rank not in stuck} for rank in shown]
+    for rank in shown:
+        words = f"line {stuck[rank]['line']}: {stuck[rank]['command']}" if rank in stuck else ""
+        data["waiting"].append({"rank": rank, "words": words, "over": rank not in stuck})
+    waits = {(rank, lack["rank"]) for rank in stuck for request in stuck[rank]["requests"] for lack in request["lacks"]}
+    data["waits"] = sorted(it for it in waits if it[0] in shown and it[1] in shown)
+
+
+def lack_words(request, lack):
+    behind = f", whose line {lack['line']} stands behind line {lack['behind']}" if lack.get("behind") else ""
+    return f"  for request {request['req']}, {request['kind']}, line {request['line']}: lacks rank {lack['rank']}{behind}"
 
 
 def add_events(data, text, path):
@@ -237,9 +272,10 @@ def add_events(data, text, path):
     add_messages(data, [event for event in bars if event.get("cat") == "message"])
     for members in meetings.values():
         last = max(members, key=lambda it: it[1])
-        data["arrows"] += [[last[0], last[1], rank, min(max(last[1], begun), ended), "meet"] for rank, begun, ended in members if rank != last[0] and last[1] > begun]
+        waiting = [(rank, ended) for rank, begun, ended in members if rank != last[0] and last[1] > begun]
+        data["arrows"] += [[last[0], last[1], rank, min(last[1], ended), "meet"] for rank, ended in waiting]
     rows = [[str(rank), f"{number:,}", numbered(busy), numbered(waits)] for rank, (number, busy, waits, _) in sorted(ranks.items())]
-    data["tables"].append({"title": "By rank", "note": "Milliseconds.", "head": ["rank", "bars", "under way", "waiting"], "rows": rows})
+    add_table(data, "By rank", "Milliseconds.", ["rank", "bars", "under way", "waiting"], rows)
     data["about"] = f"{len(ranks)} ranks, {len(data['bars']):,} bars"
 
 
@@ -248,7 +284,8 @@ def add_event(data, event, meetings, ranks):
     rank, begun, ended = event["pid"], event["ts"], event["ts"] + event["dur"]
     at = os.path.basename(str(said.get("at", ""))) or (f"line {said['line']}" if said.get("line") else "")
     words = ", ".join(f"{name} {value}" for name, value in said.items() if name not in ("at", "completed at", "line"))
-    data["bars"].append([rank, event.get("tid", 0), begun, ended, "call" if is_wait else "request", event["name"], at, words, ended if is_wait else begun])
+    kind, waited = ("call", ended) if is_wait else ("request", begun)
+    data["bars"].append([rank, event.get("tid", 0), begun, ended, kind, event["name"], at, words, waited])
     row = ranks[rank]
     row[0] += 1
     row[1] += 0 if is_wait else event["dur"]
