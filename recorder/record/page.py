@@ -8,6 +8,7 @@ import re
 
 from agreement import call_words
 from records import Unreadable
+from standing import COLLECTIVE, RECEIVE, SEND
 from times import Meetings, timed_calls
 
 HERE = os.path.dirname(os.path.abspath(__file__))
@@ -115,13 +116,13 @@ def words_of(report, call, last):
     """What a call made or waited for, and whom it waited for."""
     found = []
     for awaited in call.awaited:
-        command = report.standings.command(call.rank, awaited) if awaited.kind == 1 else None
+        command = report.standings.command(call.rank, awaited) if awaited.kind == COLLECTIVE else None
         if command:
             record = report.records[call.rank]
             words = call_words(command.call, lambda op, record=record: report.contexts.operation_words(record, op))
             found.append(f"{words}: call {awaited.index + 1} on {report.contexts.name(command.key)}")
-        elif awaited.kind in (2, 3):
-            found.append(("a receive " if awaited.kind == 2 else "a send ") + report.standings.message_words(call.rank, awaited))
+        elif awaited.kind in (RECEIVE, SEND):
+            found.append(("a receive " if awaited.kind == RECEIVE else "a send ") + report.standings.message_words(call.rank, awaited))
     if last:
         found.append(f"waited for {whom(report, last)}")
     return "\n".join(found)
@@ -130,17 +131,16 @@ def words_of(report, call, last):
 def add_arrows(data, meetings, waited, calls, first):
     """A message's arrow goes from its send to the end of the call that received it, a collective's from its last member to those that waited for
     it."""
-    for key, ends in meetings.ends.items():
-        for call, kind in ends:
-            if key[0] == "message" and kind == 2:
-                sent = meetings.posted[key].get((key[2], 3))
-                if sent and call.is_over:
-                    ended = max(call.ended, sent.begun)
-                    data["arrows"].append([key[2], micros(sent.begun - first), key[3], micros(ended - first), "message"])
-            elif key[0] == "collective":
-                until, last = waited[id(call)]
-                if last and last is meetings.last_of(key, call, kind):
-                    data["arrows"].append([last.rank, micros(last.begun - first), call.rank, micros(until - first), "meet"])
+    for key, call, kind in meetings.ends():
+        if key[0] == "message" and kind == RECEIVE:
+            sent = meetings.posted[key].get((key[2], SEND))
+            if sent and call.is_over:
+                ended = max(call.ended, sent.begun)
+                data["arrows"].append([key[2], micros(sent.begun - first), key[3], micros(ended - first), "message"])
+        elif key[0] == "collective":
+            until, last = waited[id(call)]
+            if last and last is meetings.last_of(key, kind):
+                data["arrows"].append([last.rank, micros(last.begun - first), call.rank, micros(until - first), "meet"])
 
 
 def add_table(data, title, note, head, rows):
