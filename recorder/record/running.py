@@ -9,6 +9,10 @@ from launcher import Impossible
 from page import page_of_files
 
 
+# How the tables of `wzrun --stats` begin.
+TABLES = b"wzrun: collectives that were posted"
+
+
 def page_of_command(command, title=None):
     """Runs a command, and gives its status with its page."""
     name, what = os.path.basename(command[0]), command[1:2]
@@ -42,19 +46,21 @@ def ended(run):
 
 
 def run_wzrun(command, folder):
-    """What it says goes to standard error as it comes, and is kept."""
+    """What it says goes to standard error as it comes, and is kept. The tables are shown only where they were asked for."""
     files = {"timeline": os.path.join(folder, "timeline"), "words": os.path.join(folder, "words"), "tables": os.path.join(folder, "tables")}
     environment = dict(os.environ, WZ_TIMELINE=files["timeline"], WZ_STATS="1")
     run = started(command, env=environment, stderr=subprocess.PIPE)
-    said = []
+    said, tables = [], []
+    is_asked = "--stats" in command or os.environ.get("WZ_STATS", "0") not in ("", "0")
     for line in run.stderr:
-        said.append(line)
-        sys.stderr.buffer.write(line)
-        sys.stderr.buffer.flush()
+        lines = tables if tables or line.startswith(TABLES) else said
+        lines.append(line)
+        if lines is said or is_asked:
+            sys.stderr.buffer.write(line)
+            sys.stderr.buffer.flush()
     status = ended(run)
-    own = [line for line in said if line.startswith((b"wzrun:", b"  "))]
-    tables = next((place for place, line in enumerate(own) if line.startswith(b"wzrun: collectives that were posted")), len(own))
-    for key, lines in (("words", own[:tables]), ("tables", own[tables:])):
+    words = [line for line in said if line.startswith((b"wzrun:", b"  "))]
+    for key, lines in (("words", words), ("tables", tables)):
         with open(files[key], "wb") as file:
             file.writelines(lines)
     return status, files
