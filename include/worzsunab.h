@@ -1,16 +1,19 @@
-/* MPI's nonblocking and persistent collectives (MPI 4.1, 6.12 and 6.13) among the threads of one process: C11 and C++.
+/* MPI's nonblocking and persistent collectives (MPI 4.1, 6.12 and 6.13) among the threads of one process, for C11 and
+   C++.
 
-   An engine serves all ranks of a process. A rank posts a collective, or makes a persistent one and starts it, and is given a
-   request. wz_settle and wz_step make progress, for all ranks. wz_test completes a request into the caller's memory. No
-   function blocks, takes a lock, starts a thread or keeps a pointer that it was given.
+   An engine serves all ranks of a process. A rank posts a collective, or makes a persistent one and starts it, and
+   is given a request. wz_settle and wz_step make progress, for all ranks. wz_test completes a request into the
+   caller's memory. No function blocks, takes a lock, starts a thread or keeps a pointer that it was given.
 
    Whoever calls owes this:
    - an engine goes to one call at a time: threads that share one have a lock (worzsunab_threads.h has one);
-   - a wz_engine or wz_work is all zeros, or was last written by a function of this library, and is neither copied nor changed
-     between; a wz_work, too, goes to one call at a time;
-   - pointers are good for as many bytes as are said, and no two of one call overlap. With length 0 a pointer may be NULL;
+   - a wz_engine or wz_work is all zeros, or was last written by a function of this library, and is neither copied
+     nor changed between; a wz_work, too, goes to one call at a time;
+   - pointers are good for as many bytes as are said, and no two of one call overlap. With length 0 a pointer may be
+     NULL;
    - malloc, realloc and free are of one allocator.
-   All else is told: a wrong number, length, rank, communicator or request, and a closed engine, have codes of their own. */
+   All else is told: a wrong number, length, rank, communicator or request, and a closed engine, have codes of their
+   own. */
 #ifndef WORZSUNAB_H
 #define WORZSUNAB_H
 
@@ -27,20 +30,21 @@ extern const int32_t wz_proved;
 
 /* ---- collectives */
 
-/* Kinds (wz_call.kind), with the MPI call and the bytes that member r of n gives and gets; a block is count elements. */
+/* Kinds (wz_call.kind), with the MPI call and the bytes that member r of n gives and gets. A block is count
+   elements. */
 enum {
-    WZ_BARRIER = 0,              /* MPI_Ibarrier               gives 0                       gets 0                       */
-    WZ_BCAST = 1,                /* MPI_Ibcast                 root a block, others 0        a block                      */
-    WZ_GATHER = 2,               /* MPI_Igather                a block                       root n blocks, others 0      */
-    WZ_SCATTER = 3,              /* MPI_Iscatter               root n blocks, others 0       a block                      */
-    WZ_ALLGATHER = 4,            /* MPI_Iallgather             a block                       n blocks                     */
-    WZ_ALLTOALL = 5,             /* MPI_Ialltoall              n blocks                      n blocks                     */
-    WZ_REDUCE = 6,               /* MPI_Ireduce                a block                       root a block, others 0       */
-    WZ_ALLREDUCE = 7,            /* MPI_Iallreduce             a block                       a block                      */
-    WZ_REDUCE_SCATTER_BLOCK = 8, /* MPI_Ireduce_scatter_block  n blocks                      a block                      */
-    WZ_SCAN = 9,                 /* MPI_Iscan                  a block                       a block                      */
-    WZ_EXSCAN = 10,              /* MPI_Iexscan                a block                       a block, member 0 gets 0     */
-    WZ_ALLGATHERV = 11           /* MPI_Iallgatherv            counts[r] elements            what all give, in order;
+    WZ_BARRIER = 0,              /* MPI_Ibarrier               gives 0                     gets 0                     */
+    WZ_BCAST = 1,                /* MPI_Ibcast                 root a block, others 0      a block                    */
+    WZ_GATHER = 2,               /* MPI_Igather                a block                     root n blocks, others 0    */
+    WZ_SCATTER = 3,              /* MPI_Iscatter               root n blocks, others 0     a block                    */
+    WZ_ALLGATHER = 4,            /* MPI_Iallgather             a block                     n blocks                   */
+    WZ_ALLTOALL = 5,             /* MPI_Ialltoall              n blocks                    n blocks                   */
+    WZ_REDUCE = 6,               /* MPI_Ireduce                a block                     root a block, others 0     */
+    WZ_ALLREDUCE = 7,            /* MPI_Iallreduce             a block                     a block                    */
+    WZ_REDUCE_SCATTER_BLOCK = 8, /* MPI_Ireduce_scatter_block  n blocks                    a block                    */
+    WZ_SCAN = 9,                 /* MPI_Iscan                  a block                     a block                    */
+    WZ_EXSCAN = 10,              /* MPI_Iexscan                a block                     a block, member 0 gets 0   */
+    WZ_ALLGATHERV = 11           /* MPI_Iallgatherv            counts[r] elements          what all give, in order;
                                     it has functions of its own, since a wz_call has no counts: wz_post_allgatherv */
 };
 
@@ -57,7 +61,7 @@ enum {
     WZ_BAND = 8,         /* MPI_BAND */
     WZ_BOR = 9,          /* MPI_BOR */
     WZ_BXOR = 10,        /* MPI_BXOR */
-    WZ_LASTNZ = 11,      /* the second element where it isn't 0, else the first: like an operation of a user, not commutative */
+    WZ_LASTNZ = 11,      /* the second element where it isn't 0, else the first; not commutative, as a user's may be */
     WZ_MAXLOC = 12,      /* MPI_MAXLOC */
     WZ_MINLOC = 13       /* MPI_MINLOC */
 };
@@ -86,17 +90,18 @@ typedef struct wz_call {
     uint32_t count; /* elements of a block: up to 65,536; nobody gives or gets more than 16,777,216 bytes */
 } wz_call;
 
-/* Why a call was refused, with what is known of it; a field that a refusal has no use for is 0. WZ_STALLED is worzsunab_threads.h's. */
+/* Why a call was refused, with what is known of it; a field that a refusal has no use for is 0. WZ_STALLED is
+   worzsunab_threads.h's. */
 typedef struct wz_reason {
     int32_t code;    /* WZ_BAD_COMM to WZ_BAD_CONFIG; 0: no call was refused */
     uint8_t rank;    /* WZ_NOT_MEMBER: the rank that isn't one; WZ_STALLED: the one that waits */
     uint8_t cause;   /* WZ_BAD_SIGNATURE: WZ_RULE_ROOT and so on; WZ_BAD_CONFIG: WZ_FIELD_RANKS and so on */
     uint8_t first;   /* WZ_MISMATCH: the lowest rank that has that place; WZ_STALLED: the lowest that is waited for */
-    bool persistent; /* WZ_MISMATCH: whether that rank's collective is persistent; WZ_STALLED: whether the one waited for is */
-    wz_call call;    /* WZ_MISMATCH: that rank's collective; WZ_STALLED: the one waited for; without counts (wz_posted_at) */
+    bool persistent; /* WZ_MISMATCH: whether that rank's collective is persistent; WZ_STALLED: the one waited for */
+    wz_call call;    /* WZ_MISMATCH: that rank's collective; WZ_STALLED: the one waited for; no counts (wz_posted_at) */
     uint32_t comm;   /* WZ_BAD_COMM: the number that names none; WZ_STALLED: the communicator */
     uint32_t place;  /* WZ_MISMATCH, WZ_STALLED: the place in the posting lists, from 0 on */
-    uint32_t want;   /* WZ_BAD_LENGTH: the bytes that are due; in wz_test, those of the outcome; WZ_STALLED: how many are waited for */
+    uint32_t want;   /* WZ_BAD_LENGTH: the bytes that are due, or the outcome's; WZ_STALLED: how many are waited for */
     size_t got;      /* WZ_BAD_LENGTH: the bytes that were given, or the room */
 } wz_reason;
 
@@ -104,7 +109,7 @@ typedef struct wz_reason {
 enum {
     WZ_RULE_ROOT = 1,      /* the root isn't below the number of members, or isn't 0 for a kind without a root */
     WZ_RULE_OPERATION = 2, /* the operation is missing, isn't for that type, or is given to a kind that has none */
-    WZ_RULE_COUNT = 3,     /* a count is above 65,536, a barrier's isn't 0, or a count stands behind the last member's */
+    WZ_RULE_COUNT = 3,     /* a count is above 65,536, a barrier's isn't 0, or one stands behind the last member's */
     WZ_RULE_SIZE = 4       /* some member gives or gets more than 16,777,216 bytes */
 };
 enum {
@@ -180,7 +185,7 @@ enum {
     WZ_STARTS_USED = 11,    /* the request has had all its starts */
     WZ_FULL = 12,           /* no slot is free */
     WZ_TRACE_FULL = 13,     /* of engines with a trace; no function of this library answers it */
-    WZ_STALLED = 14,        /* no wait can end: the waits of worzsunab_threads.h answer it, no function of this library */
+    WZ_STALLED = 14,        /* no wait can end: the waits of worzsunab_threads.h answer it */
     WZ_STILL_ACTIVE = 15,   /* as WZ_TRACE_FULL */
     WZ_TORN = 16,           /* as WZ_TRACE_FULL */
     WZ_NO_MEMORY = 17,      /* malloc gave none */
@@ -194,14 +199,15 @@ enum {
     WZ_NO_PLACE = 25        /* no member has posted so much, or there is no such communicator */
 };
 
-/* ---- functions. After an answer that isn't WZ_DONE nothing has changed, in the engine, the request or the memory, unless
-        it is said otherwise. Where the answer is 1 to 18, the engine's reason tells more of it; else that stays. The codes of
-        each stand in the order in which they are looked for. */
+/* ---- functions. After an answer that isn't WZ_DONE nothing has changed, in the engine, the request or the
+        memory, unless it is said otherwise. Where the answer is 1 to 18, the engine's reason tells more of it; else
+        that stays. The codes of each stand in the order in which they are looked for. */
 
-/* Opens an engine (MPI_Init, as far as it goes). Its communicators lie one after the other: sizes has the number of members of each,
-   members their ranks, in the order of their member numbers; there are 1 to 16, each of one rank or more, none twice.
-   WZ_OPEN, WZ_BAD_CONFIG (a limit, a size or a rank is out of its range, or there are more or fewer members than the sizes tell);
-   WZ_NO_MEMORY may come in place of the latter. */
+/* Opens an engine (MPI_Init, as far as it goes). Its communicators lie one after the other: sizes has the number of
+   members of each, members their ranks, in the order of their member numbers; there are 1 to 16, each of one rank or
+   more, none twice.
+   WZ_OPEN, WZ_BAD_CONFIG (a limit, a size or a rank is out of its range, or there are more or fewer members than the
+   sizes tell); WZ_NO_MEMORY may come in place of the latter. */
 int32_t wz_open(wz_engine *engine, const wz_limits *limits, const uint8_t *sizes, size_t communicators,
                 const uint8_t *members, size_t member_count);
 
@@ -209,43 +215,46 @@ int32_t wz_open(wz_engine *engine, const wz_limits *limits, const uint8_t *sizes
    WZ_CLOSED. */
 int32_t wz_close(wz_engine *engine);
 
-/* Starts a collective (MPI_Ibarrier, MPI_Ibcast and so on) for a rank of a communicator, with bytes that it gives, which are
-   copied. The members of a communicator make its posts and initialisations in one order.
-   WZ_BAD_NUMBER, WZ_CLOSED, WZ_BAD_COMM, WZ_NOT_MEMBER, WZ_BAD_SIGNATURE, WZ_MISMATCH, WZ_PLACES_USED, WZ_BAD_LENGTH, WZ_FULL;
-   WZ_NO_MEMORY may come in place of one from WZ_MISMATCH on. */
+/* Starts a collective (MPI_Ibarrier, MPI_Ibcast and so on) for a rank of a communicator, with bytes that it gives,
+   which are copied. The members of a communicator make its posts and initialisations in one order.
+   WZ_BAD_NUMBER, WZ_CLOSED, WZ_BAD_COMM, WZ_NOT_MEMBER, WZ_BAD_SIGNATURE, WZ_MISMATCH, WZ_PLACES_USED,
+   WZ_BAD_LENGTH, WZ_FULL; WZ_NO_MEMORY may come in place of one from WZ_MISMATCH on. */
 int32_t wz_post(wz_engine *engine, uint8_t rank, uint32_t comm, const wz_call *call, const void *bytes, size_t length,
                 wz_request *request);
 
-/* Starts an allgatherv (MPI_Iallgatherv): member i gives counts[i] elements of the type, and all get what all give, one after
-   the other. counts has many elements, mostly as many as the communicator has members; a member behind them gives none.
+/* Starts an allgatherv (MPI_Iallgatherv): member i gives counts[i] elements of the type, and all get what all give,
+   one after the other. counts has many elements, mostly as many as the communicator has members; a member behind
+   them gives none.
    WZ_BAD_NUMBER (the type's number, or more than 64 counts), and from WZ_CLOSED on as wz_post. */
-int32_t wz_post_allgatherv(wz_engine *engine, uint8_t rank, uint32_t comm, uint8_t type, const uint32_t *counts, size_t many,
-                           const void *bytes, size_t length, wz_request *request);
+int32_t wz_post_allgatherv(wz_engine *engine, uint8_t rank, uint32_t comm, uint8_t type, const uint32_t *counts,
+                           size_t many, const void *bytes, size_t length, wz_request *request);
 
-/* Makes a persistent request, which isn't started yet (MPI_Barrier_init, MPI_Bcast_init and so on). It takes a place as a post
-   does.
-   WZ_BAD_NUMBER, WZ_CLOSED, WZ_BAD_COMM, WZ_NOT_MEMBER, WZ_BAD_SIGNATURE, WZ_MISMATCH, WZ_PLACES_USED, WZ_FULL; WZ_NO_MEMORY
-   may come in place of one from WZ_MISMATCH on. */
+/* Makes a persistent request, which isn't started yet (MPI_Barrier_init, MPI_Bcast_init and so on). It takes a place
+   as a post does.
+   WZ_BAD_NUMBER, WZ_CLOSED, WZ_BAD_COMM, WZ_NOT_MEMBER, WZ_BAD_SIGNATURE, WZ_MISMATCH, WZ_PLACES_USED, WZ_FULL;
+   WZ_NO_MEMORY may come in place of one from WZ_MISMATCH on. */
 int32_t wz_init(wz_engine *engine, uint8_t rank, uint32_t comm, const wz_call *call, wz_request *request);
 
 /* The same of an allgatherv (MPI_Allgatherv_init), with counts as wz_post_allgatherv has them.
    WZ_BAD_NUMBER (the type's number, or more than 64 counts), and from WZ_CLOSED on as wz_init. */
-int32_t wz_init_allgatherv(wz_engine *engine, uint8_t rank, uint32_t comm, uint8_t type, const uint32_t *counts, size_t many,
-                           wz_request *request);
+int32_t wz_init_allgatherv(wz_engine *engine, uint8_t rank, uint32_t comm, uint8_t type, const uint32_t *counts,
+                           size_t many, wz_request *request);
 
 /* Starts a persistent request with bytes that the rank gives, which are copied (MPI_Start).
-   WZ_CLOSED, WZ_STALE, WZ_NOT_YOURS, WZ_NOT_PERSISTENT, WZ_ACTIVE, WZ_BAD_LENGTH, WZ_STARTS_USED; WZ_NO_MEMORY may come in place
-   of one from WZ_STALE on. */
+   WZ_CLOSED, WZ_STALE, WZ_NOT_YOURS, WZ_NOT_PERSISTENT, WZ_ACTIVE, WZ_BAD_LENGTH, WZ_STARTS_USED; WZ_NO_MEMORY may
+   come in place of one from WZ_STALE on. */
 int32_t wz_start(wz_engine *engine, uint8_t rank, const wz_request *request, const void *bytes, size_t length);
 
 /* Gives up a persistent request that isn't active, and makes it null (MPI_Request_free).
    WZ_CLOSED, WZ_STALE, WZ_NOT_YOURS, WZ_NOT_PERSISTENT, WZ_ACTIVE. */
 int32_t wz_free(wz_engine *engine, uint8_t rank, wz_request *request);
 
-/* Completes a request if it is done (MPI_Test; as MPI_Wait, call it again after progress). WZ_DONE: it was completed,
-   its outcome, *count bytes, stands at the front of out, and a request that isn't persistent is null; or it was null or not
-   active, and *count is 0. WZ_PENDING: nothing has changed. It makes no progress by itself, and takes no memory.
-   WZ_CLOSED, WZ_STALE, WZ_NOT_YOURS, WZ_BAD_LENGTH (room is less than the outcome's bytes; it can still be completed). */
+/* Completes a request if it is done (MPI_Test; as MPI_Wait, call it again after progress). WZ_DONE: it was
+   completed, its outcome, *count bytes, stands at the front of out, and a request that isn't persistent is null; or
+   it was null or not active, and *count is 0. WZ_PENDING: nothing has changed. It makes no progress by itself, and
+   takes no memory.
+   WZ_CLOSED, WZ_STALE, WZ_NOT_YOURS, WZ_BAD_LENGTH (room is less than the outcome's bytes; it can still be
+   completed). */
 int32_t wz_test(wz_engine *engine, uint8_t rank, wz_request *request, void *out, size_t room, size_t *count);
 
 /* How far a request is (MPI_Request_get_status): *phase is one of these.
@@ -261,8 +270,8 @@ int32_t wz_about(wz_engine *engine, const wz_request *request, wz_about_request 
    WZ_CLOSED, WZ_STALE, WZ_NOT_YOURS. */
 int32_t wz_outcome_length(wz_engine *engine, uint8_t rank, const wz_request *request, size_t *bytes);
 
-/* Makes at most budget actions of any rank's collectives: each copies a message or combines two rows. *actions tells how many;
-   they are fewer only where none is left.
+/* Makes at most budget actions of any rank's collectives: each copies a message or combines two rows. *actions tells
+   how many; they are fewer only where none is left.
    WZ_CLOSED; WZ_NO_MEMORY, after which the actions that were made stay made. */
 int32_t wz_step(wz_engine *engine, uint32_t budget, uint32_t *actions);
 
@@ -274,23 +283,26 @@ int32_t wz_settle(wz_engine *engine);
    WZ_CLOSED. */
 int32_t wz_lent(wz_engine *engine, uint64_t *bytes);
 
-/* ---- combinations outside the lock. The rows that an operation combines may be long. So that other threads go on meanwhile, one
-        takes the combination out under the lock, runs it without, and returns it under the lock:
+/* ---- combinations outside the lock. The rows that an operation combines may be long. So that other threads go
+        on meanwhile, one takes the combination out under the lock, runs it without, and returns it under the lock:
 
-            while (wz_take_work(&engine, &work) == WZ_DONE) { unlock; wz_run_work(&work); lock; wz_return_work(&engine, &work); }
+            while (wz_take_work(&engine, &work) == WZ_DONE) {
+                unlock; wz_run_work(&work); lock; wz_return_work(&engine, &work);
+            }
 
         Its request is pending for so long, and wz_step and wz_settle go past it. Several may be outside at one time. */
 
 /* Makes actions until the next one is a combination, and takes that out.
-   WZ_HAS_WORK, WZ_CLOSED, WZ_NO_WORK (no action is left, as after wz_settle); WZ_NO_MEMORY. The actions that were made stay made. */
+   WZ_HAS_WORK, WZ_CLOSED, WZ_NO_WORK (no action is left, as after wz_settle); WZ_NO_MEMORY. The actions that were
+   made stay made. */
 int32_t wz_take_work(wz_engine *engine, wz_work *work);
 
 /* Computes the combination, if that isn't done yet. It needs no engine, and so no lock.
    WZ_NO_WORK, WZ_NO_MEMORY (it can be run again, or returned undone). */
 int32_t wz_run_work(wz_work *work);
 
-/* Returns the combination to the engine that it was taken out of: its request goes on with the result. One that wasn't run can be
-   taken, or made by wz_step and wz_settle, again.
+/* Returns the combination to the engine that it was taken out of: its request goes on with the result. One that
+   wasn't run can be taken, or made by wz_step and wz_settle, again.
    WZ_NO_WORK, WZ_CLOSED; WZ_STALE where the engine has no such combination outside: it is given up then. */
 int32_t wz_return_work(wz_engine *engine, wz_work *work);
 
@@ -307,15 +319,15 @@ typedef struct wz_posted {
     uint32_t counts[64]; /* of an allgatherv, the elements that each member gives; else 0 */
 } wz_posted;
 
-/* The collective that the members of a communicator have at a place, from 0 on: all that have the place have the same. After a
-   WZ_MISMATCH it tells the whole of what the reason tells, with an allgatherv's counts:
+/* The collective that the members of a communicator have at a place, from 0 on: all that have the place have the
+   same. After a WZ_MISMATCH it tells the whole of what the reason tells, with an allgatherv's counts:
    wz_posted_at(&engine, comm, engine.reason.place, &posted).
    WZ_CLOSED, WZ_NO_PLACE (no member has posted so much, or there is no such communicator). */
 int32_t wz_posted_at(wz_engine *engine, uint32_t comm, uint32_t place, wz_posted *posted);
 
-/* ---- lists of requests of one rank (MPI 4.1, 3.7.5 and 3.9). All outcomes of a list go into one memory, in which each request has
-        a span. All requests are looked at before anything changes. No request of a test's list stands twice in it, but for
-        null ones. */
+/* ---- lists of requests of one rank (MPI 4.1, 3.7.5 and 3.9). All outcomes of a list go into one memory, in
+        which each request has a span. All requests are looked at before anything changes. No request of a test's
+        list stands twice in it, but for null ones. */
 
 /* A request of a list, with its span: room bytes from at on, as far as the memory reaches. */
 typedef struct wz_part {
@@ -329,24 +341,28 @@ typedef struct wz_part {
 /* No position: no request of the list is active (MPI_UNDEFINED). */
 #define WZ_UNDEFINED SIZE_MAX
 
-/* Completes the lowest request that is done (MPI_Testany): *index is its position, or WZ_UNDEFINED where none is active. The
-   other parts stay. WZ_PENDING where some are active and none is done.
+/* Completes the lowest request that is done (MPI_Testany): *index is its position, or WZ_UNDEFINED where none is
+   active. The other parts stay. WZ_PENDING where some are active and none is done.
    WZ_CLOSED, WZ_STALE, WZ_NOT_YOURS, WZ_BAD_LENGTH (the outcome has more bytes than its span). */
-int32_t wz_test_any(wz_engine *engine, uint8_t rank, wz_part *parts, size_t many, void *out, size_t room, size_t *index);
+int32_t wz_test_any(wz_engine *engine, uint8_t rank, wz_part *parts, size_t many, void *out, size_t room,
+                    size_t *index);
 
-/* Completes each request that is done, in rising position (MPI_Testsome): *completed tells how many, and each part whether it
-   was it. *completed is WZ_UNDEFINED where none is active, and the parts stay.
+/* Completes each request that is done, in rising position (MPI_Testsome): *completed tells how many, and each part
+   whether it was it. *completed is WZ_UNDEFINED where none is active, and the parts stay.
    WZ_TWICE, WZ_CLOSED, WZ_STALE, WZ_NOT_YOURS, WZ_BAD_LENGTH. */
-int32_t wz_test_some(wz_engine *engine, uint8_t rank, wz_part *parts, size_t many, void *out, size_t room, size_t *completed);
+int32_t wz_test_some(wz_engine *engine, uint8_t rank, wz_part *parts, size_t many, void *out, size_t room,
+                     size_t *completed);
 
-/* Completes all requests if none is pending (MPI_Testall), else WZ_PENDING. A part that wasn't active isn't completed.
+/* Completes all requests if none is pending (MPI_Testall), else WZ_PENDING. A part that wasn't active isn't
+   completed.
    WZ_TWICE, WZ_CLOSED, WZ_STALE, WZ_NOT_YOURS, WZ_BAD_LENGTH. */
 int32_t wz_test_all(wz_engine *engine, uint8_t rank, wz_part *parts, size_t many, void *out, size_t room);
 
-/* Starts requests in rising position (MPI_Startall), each with the bytes of its span of given, which are copied. *started tells how
-   many were: those before the first whose start is refused, with that refusal, as wz_start answers it. */
-int32_t wz_start_all(wz_engine *engine, uint8_t rank, const wz_part *parts, size_t many, const void *given, size_t length,
-                     size_t *started);
+/* Starts requests in rising position (MPI_Startall), each with the bytes of its span of given, which are copied.
+   *started tells how many were: those before the first whose start is refused, with that refusal, as wz_start
+   answers it. */
+int32_t wz_start_all(wz_engine *engine, uint8_t rank, const wz_part *parts, size_t many, const void *given,
+                     size_t length, size_t *started);
 
 #ifdef __cplusplus
 }
