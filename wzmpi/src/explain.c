@@ -68,14 +68,16 @@ static void tell_text(const char *line, const char *removed) {
     fputs(line, stderr);
 }
 
-/* The text has a message as a collective of its ranks, so what is proved of it needn't hold for the program, which has stalled. */
+/* What is proved of the text needn't hold for the program, which has stalled: schedules may complete a collective before all members have called it, and a
+   message stands as a collective of its ranks. */
 static bool says_well(const char *line) { return strstr(line, "no run stalls (proved)") != NULL || strstr(line, "never stalls") != NULL; }
 
 static void tell_line(const struct lines *lines, const char *line, const char *removed) {
     const char *place = where(lines, shown(line));
     fputs("  ", stderr);
     tell_text(line, removed);
-    if (says_well(line)) fputs("    # of the calls as the text has them, with messages as collectives: the program has stalled all the same", stderr);
+    if (says_well(line)) fputs(the_run.strict ? "    # with these schedules; --strict waits for all members and receives, as MPI allows, and so the program has stalled"
+                                              : "    # of the calls as the text has them, with messages as collectives; the program has stalled all the same", stderr);
     if (place != NULL) fprintf(stderr, "    # %s", place);
     else if (shown(line) == 0) tell_named(lines, line);
     fputc('\n', stderr);
