@@ -1,5 +1,5 @@
 use Rattle.coll_deadlock.proofs.CoreRows.{one_is_early}
-use Rattle.coll_deadlock.proofs.laws.one_is_early.Goals as goal
+use Rattle.coll_deadlock.proofs.engine.one_is_early.Goals as goal
 
 pub returns : goal.returns
 returns c = one_is_early

@@ -1,5 +1,5 @@
 use Rattle.coll_deadlock.proofs.Lining.{noted_at_lines}
-use Rattle.coll_deadlock.proofs.laws.noted_at_lines.Goals as goal
+use Rattle.coll_deadlock.proofs.ports.noted_at_lines.Goals as goal
 
 pub returns : goal.returns
 returns c = noted_at_lines
