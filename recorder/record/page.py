@@ -186,7 +186,8 @@ def read(path):
 
 def page_of_files(title, timeline=None, tables=None, words=None, explained=None, status=None):
     """The page of what a program wrote: trace events, tables in lines, what it said, and the lines of `colljob explain --format json`."""
-    data = empty_page(title, "", title, "good" if status in (None, 0) else "bad")
+    verdict = title if status is None else f"ended with status {status}"
+    data = empty_page(title, "", verdict, "good" if not status else "bad")
     said = read(words) if words else ""
     if said.strip():
         add_said(data, said, status)

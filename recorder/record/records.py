@@ -25,6 +25,8 @@ Side = collections.namedtuple("Side", "types counts each")
 Call = collections.namedtuple("Call", "form name root op sent got")
 Context = collections.namedtuple("Context", "kind key maker members place")
 
+FORMS = ("b", "n", "p", "i")
+
 NO_TYPE = Type("byte", 0, False, 0, (), True)
 
 NEWLINE, AT, PERCENT, HASH, PLUS, EQUALS, MINUS = b"\n@%#+=-"
@@ -78,45 +80,69 @@ class Record:
     def read(self, file):
         """Reads all lines. The file of a program that was killed has zeros after its last line, or a part of a line."""
         offset = file.tell()
-        place, thread, remarks, known = None, 0, [], self.kinds_at(None, 0)
-        for line in file:
-            if line[-1] != NEWLINE or not line[0]:
-                break
-            self.line += 1
+        place, thread, remarks, known, spots = None, 0, [], self.kinds_at(None, 0), {}
+        made, persistent = self.commands.requests, self.persistent
+        for self.line, line in enumerate(file, 2):
             first = line[0]
-            if first == AT:
-                place = int(line[1:])
-                known = self.kinds_at(place, thread)
-            elif first == PERCENT:
-                thread = int(line[1:])
-                known = self.kinds_at(place, thread)
-            elif first == HASH:
-                remarks.append(line[:-1].decode(errors="replace"))
+            if first == AT and line in spots:
+                place, known = spots[line]
+            elif line[-1] != NEWLINE or not first:
+                break
             elif line.startswith(b"call "):
                 body = line.partition(b" : ")[0]
                 kind = known.get(body) if not remarks else None
                 self.take_call(kind or self.call_kind(body, place, thread, remarks, known), offset)
-                if remarks:
-                    remarks = []
+                remarks = []
             elif first == PLUS:
                 kind = known.get(line)
                 self.take_message(kind or self.message_kind(line, place, thread, known), place, offset)
-            elif first == EQUALS:
-                code = known.get(line)
+            elif line.startswith(b"wait "):
+                # Most wait for a request that was made so many ago.
+                number = int(line[5:])
+                code = known.get(len(made) - number) if not remarks and number not in persistent else None
                 if code is None:
-                    self.callers.add(thread)
-                    code = known[line] = self.commands.add_kind(Kind(place, thread, (), "message wait", relative=tuple(map(int, line[1:].split()))))
-                self.commands.add(code, len(self.commands.messages), offset)
-            elif first == MINUS:
-                pass  # a call for any or some, or a test, completed a message: another library may complete another
-            elif line.startswith(b"wait"):
-                self.read_wait(line.split(), place, thread, remarks, known, offset)
-                if remarks:
-                    remarks = []
+                    code = self.wait_code(line.split(), place, thread, remarks, known)
+                    if not remarks and number not in persistent:
+                        known[len(made) - number] = code
+                self.commands.add(code, len(made), offset)
+                remarks = []
+            elif first == AT:
+                place = int(line[1:])
+                known = self.kinds_at(place, thread)
+                spots[line] = place, known
+            elif first == PERCENT:
+                thread = int(line[1:])
+                known, spots = self.kinds_at(place, thread), {}
             else:
-                remarks = self.read_other(line[:-1].decode(errors="replace").split(" "), place, thread, remarks, offset)
+                remarks = self.read_rare(line, place, thread, remarks, known, offset)
             offset += len(line)
         self.seen.clear()
+
+    def read_rare(self, line, place, thread, remarks, known, offset):
+        """A line of another kind; returns the remarks that wait for the next command."""
+        if line[0] == HASH:
+            return remarks + [line[:-1].decode(errors="replace")]
+        if line[0] == EQUALS:
+            code, most = known.get(line) or self.message_wait_kind(line, place, thread, known)
+            if most > len(self.commands.messages):
+                raise ValueError
+            self.commands.add(code, len(self.commands.messages), offset)
+        elif line.startswith(b"wait"):
+            self.commands.add(self.wait_code(line.split(), place, thread, remarks, known), len(self.commands.requests), offset)
+            return []
+        elif line[0] != MINUS:
+            return self.read_other(line[:-1].decode(errors="replace").split(" "), place, thread, remarks, offset)
+        # (What a `-` completed another library may complete later.)
+        return remarks
+
+    def message_wait_kind(self, line, place, thread, known):
+        """The kind of a wait for messages: its number, and how many must have been made before."""
+        relative = tuple(map(int, line[1:].split()))
+        if min(relative) < 1:
+            raise ValueError
+        self.callers.add(thread)
+        known[line] = self.commands.add_kind(Kind(place, thread, (), "message wait", relative=relative)), max(relative)
+        return known[line]
 
     def kinds_at(self, place, thread):
         return self.seen.setdefault((place, thread), {})
@@ -173,7 +199,8 @@ class Record:
             row.says.append((row.count, *says, place))
         row.count += 1
 
-    def read_wait(self, words, place, thread, remarks, known, offset):
+    def wait_code(self, words, place, thread, remarks, known):
+        """The kind of a command that names requests."""
         made, persistent = len(self.commands.requests), self.persistent
         numbers = [int(it) for it in words[1:]]
         if numbers and not 0 <= min(numbers) <= max(numbers) < made:
@@ -184,11 +211,13 @@ class Record:
         if code is None:
             self.callers.add(thread)
             code = known[line] = self.commands.add_kind(Kind(place, thread, tuple(remarks), words[0].decode(), relative=relative))
-        self.commands.add(code, made, offset)
+        return code
 
     def parse(self, words):
         """The number of the context, and the call."""
         root = op = sent = got = None
+        if words[1] not in FORMS:
+            raise ValueError
         for word in words[3:]:
             rest = word[1:]
             if word[0] == "r":
@@ -260,7 +289,8 @@ class Record:
             self.starts[number] += 1
         elif words[0] == "test":
             self.tests[number] = len(self.commands)
-        self.read_wait(line, place, thread, remarks, self.kinds_at(place, thread), offset)
+        code = self.wait_code(line, place, thread, remarks, self.kinds_at(place, thread))
+        self.commands.add(code, len(self.commands.requests), offset)
 
     def note_done(self, position):
         """Says of a test that it completed its request."""
