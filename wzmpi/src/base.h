@@ -86,8 +86,11 @@ struct rank {
     atomic_int sleeps; /* its threads that do */
 };
 
+enum colours { AUTOMATIC, ALWAYS, NEVER };
+
 struct run {
     int size;
+    enum colours colours;
     struct rank ranks[MOST_RANKS];
     atomic_int blocked; /* ranks that wait or have ended */
     bool strict, checks, explains, statistics;

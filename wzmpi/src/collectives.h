@@ -192,6 +192,7 @@ void finish_freed(void);                              /* those of this rank that
 void open_mailboxes(int many);
 void warn_of_mail(void); /* once all ranks have ended: which messages nobody received */
 bool message_waits(const struct request *probe);
+unsigned long long messages_sent(void); /* by all ranks so far */
 int start_message(struct request *request);
 int post_and_wait(struct comm *comm, const struct arguments *arguments, struct request **kept);
 int split_comm(MPI_Comm comm, int color, int key, MPI_Comm *made, const char *call);

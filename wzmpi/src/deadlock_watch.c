@@ -265,7 +265,7 @@ static void warn_of_stall(const struct sight *sight, uint64_t lost, const char *
     if (told) return;
     told = true;
     flush_streams();
-    fprintf(stderr, "wzrun: warning: no rank goes on: %s\n", what);
+    fprintf(stderr, "%s: no rank goes on: %s\n", warning_head(), what);
     tell_lost(sight, lost);
 }
 
@@ -283,9 +283,9 @@ static void tell_stall(const struct sight *sight, uint64_t lost) {
     if (!tells_first()) return; /* whoever tells already ends the run, and may want to look at the ranks before */
     wait_for_ends();
     flush_streams();
-    if (tests) fprintf(stderr, "wzrun: stalled: no rank can go on, and tests can't come true any more\n");
-    else if (all) fprintf(stderr, "wzrun: stalled: no rank can go on\n");
-    else fprintf(stderr, "wzrun: stalled: %s can't go on\n", ranks_text(lost, ranks));
+    if (tests) fprintf(stderr, "%s: stalled: no rank can go on, and tests can't come true any more\n", fault_head());
+    else if (all) fprintf(stderr, "%s: stalled: no rank can go on\n", fault_head());
+    else fprintf(stderr, "%s: stalled: %s can't go on\n", fault_head(), ranks_text(lost, ranks));
     tell_lost(sight, lost);
     end_run(fault_status(STATUS_STALLED), tests ? (struct question){ NULL, NULL } : complete_stalled(lost, sight->gone));
 }

@@ -75,7 +75,7 @@ void tell_alone(void) { pthread_mutex_lock(&telling); }
 bool tells_first(void) { return pthread_mutex_trylock(&telling) == 0; }
 
 void go_back(void) {
-    if (the_run.folder >= 0 && fchdir(the_run.folder) != 0) fprintf(stderr, "wzrun: the folder in which it was begun can't be entered any more\n");
+    if (the_run.folder >= 0 && fchdir(the_run.folder) != 0) fprintf(stderr, "%s: the folder in which it was begun can't be entered any more\n", fault_head());
 }
 
 int fault_status(int status) { return the_run.status_of_faults > 0 ? the_run.status_of_faults : status; }
@@ -83,9 +83,9 @@ int fault_status(int status) { return the_run.status_of_faults > 0 ? the_run.sta
 void end_run(int status, struct question question) {
     flush_streams();
     go_back();
-    if (!record_write()) fprintf(stderr, "wzrun: %s can't be written\n", the_run.text != NULL ? the_run.text : the_run.values);
+    if (!record_write()) fprintf(stderr, "%s: %s can't be written\n", fault_head(), the_run.text != NULL ? the_run.text : the_run.values);
     const char *unwritten = the_run.notes ? write_notes() : NULL;
-    if (unwritten != NULL) fprintf(stderr, "wzrun: %s can't be written\n", unwritten);
+    if (unwritten != NULL) fprintf(stderr, "%s: %s can't be written\n", fault_head(), unwritten);
     if (question.words != NULL) explain_end(&question);
     fflush(stderr);
     _exit(status);
@@ -97,7 +97,7 @@ void print_warning(const char *format, ...) {
     va_start(rest, format);
     vsnprintf(text, sizeof text, format, rest);
     va_end(rest);
-    fprintf(stderr, "wzrun: warning: %s\n", text);
+    fprintf(stderr, "%s: %s\n", warning_head(), text);
 }
 
 int refuse_by(const struct refusal *refusal, const char *format, va_list rest) {
@@ -115,7 +115,7 @@ int refuse_by(const struct refusal *refusal, const char *format, va_list rest) {
     if (returns) return class;
     tell_alone();
     flush_streams();
-    fprintf(stderr, "wzrun: rank %d: %s at %s: %s (%s)\n", me->number, refusal->call, me->site, me->last_refusal, class_name(class));
+    fprintf(stderr, "%s: rank %d: %s at %s: %s (%s)\n", fault_head(), me->number, refusal->call, me->site, me->last_refusal, class_name(class));
     end_run(fault_status(STATUS_WRONG), (struct question){ NULL, NULL });
 }
 

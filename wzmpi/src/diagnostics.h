@@ -24,6 +24,10 @@ int refuse_by(const struct refusal *refusal, const char *format, va_list rest);
 void print_warning(const char *format, ...) __attribute__((format(printf, 1, 2)));
 const char *class_name(int class);
 
+/* `wzrun` and `wzrun: warning`, as they begin a sentence (colour.c). */
+const char *fault_head(void);
+const char *warning_head(void);
+
 /* Ends the run; with --explain colljob is asked why. Whoever reports something has taken the right to it first, so that one thing is reported. */
 void tell_alone(void);
 bool tells_first(void); /* false, and at once, where another has taken it */

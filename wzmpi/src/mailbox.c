@@ -132,8 +132,11 @@ static void hand_over(struct message *message, struct request *receive) {
     }
 }
 
+static atomic_ullong messages;
+
+unsigned long long messages_sent(void) { return atomic_load(&messages); }
+
 static struct message *write_message(struct request *request) {
-    static atomic_ullong messages;
     size_t length = (size_t)request->many * request->type->size;
     struct message *message = must(malloc(sizeof *message + length));
     int own;

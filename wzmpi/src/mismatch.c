@@ -123,7 +123,7 @@ void tell_mismatch(struct comm *comm, uint64_t number) {
     for (int i = 0; i < comm->size; i++)
         if (read_called(comm, i, number, &place.called[i])) place.there |= 1ull << i;
     flush_streams();
-    fprintf(stderr, "wzrun: collectives don't agree: place %llu of %s (MPI_ERR_ARG)\n", (unsigned long long)number, comm_name(comm, name));
+    fprintf(stderr, "%s: collectives don't agree: place %llu of %s (MPI_ERR_ARG)\n", fault_head(), (unsigned long long)number, comm_name(comm, name));
     tell_calls(&place);
     tell_absent(&place);
     tell_difference(&place);

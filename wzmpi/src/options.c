@@ -29,6 +29,7 @@ static const char help[] =
     "  --stats          says what ranks and collectives gave, got and waited, how many collectives the engine carried out as they are, and how many it carried\n"
     "Else:\n"
     "  --status-of-faults N  the status where wzrun reports a fault, 1 to 255, so that it can't be the program's\n"
+    "  --color WHEN     auto, always or never; auto where standard error is a terminal and NO_COLOR isn't set\n"
     "  -q, --quiet      without notes about what ranks share, as processes wouldn't\n"
     "  --oversubscribe, --allow-run-as-root  are taken, as mpirun's, and mean nothing\n"
     "  --version, --help\n"
@@ -60,6 +61,11 @@ static int status_of(const char *word, const char *text) {
     uint64_t it = number(word, text, NULL);
     if (it > 255) give_up(word, "a status is 1 to 255");
     return (int)it;
+}
+
+static enum colours colours_of(const char *word, const char *text) {
+    if (strcmp(text, "auto") != 0 && strcmp(text, "always") != 0 && strcmp(text, "never") != 0) give_up(word, "auto, always or never stands after it");
+    return text[0] == 'n' ? NEVER : text[1] == 'l' ? ALWAYS : AUTOMATIC;
 }
 
 static double seconds_of(const char *word, const char *text) {
@@ -103,6 +109,7 @@ static bool read_value(const char *word, const char *value, struct options *opti
     if (is_word(word, "-n") || is_word(word, "-np")) options->ranks = ranks_of(word, value);
     else if (is_word(word, "-x")) set_variable(value);
     else if (is_word(word, "--status-of-faults")) the_run.status_of_faults = status_of(word, value);
+    else if (is_word(word, "--color")) the_run.colours = colours_of(word, value);
     else if (is_word(word, "--timeout")) the_run.timeout = seconds_of(word, value);
     else if (is_word(word, "--seed")) the_run.seed = number(word, value, NULL);
     else if (is_word(word, "--seeds")) read_seeds(value, options);

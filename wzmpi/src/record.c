@@ -292,6 +292,9 @@ bool record_write_text(const char *path) {
         fwrite(part->bytes, 1, part->length, to);
         funlockfile(part->text);
     }
+    unsigned long long messages = messages_sent();
+    if (messages > 0)
+        fprintf(to, "# %llu message%s sent beside these calls, which a text doesn't have: what colljob says is of the collectives alone\n", messages, messages == 1 ? " was" : "s were");
     return fclose(to) == 0;
 }
 

@@ -31,7 +31,7 @@ void catch_signals(void) {
 
 static void tell(const char *why) {
     flush_streams();
-    fprintf(stderr, "wzrun: %s: here the ranks stand:\n", why);
+    fprintf(stderr, "%s: %s: here the ranks stand:\n", fault_head(), why);
     tell_where_all_stand();
 }
 

@@ -39,7 +39,7 @@ static void tell_wrong_thread(const struct rank *rank, const char *call) __attri
 static void tell_wrong_thread(const struct rank *rank, const char *call) {
     tell_alone();
     flush_streams();
-    fprintf(stderr, "wzrun: rank %d: %s at %s: another thread than the main one calls it, under %s; the main thread's last call stands at %s (MPI_ERR_OTHER)\n", rank->number, call,
+    fprintf(stderr, "%s: rank %d: %s at %s: another thread than the main one calls it, under %s; the main thread's last call stands at %s (MPI_ERR_OTHER)\n", fault_head(), rank->number, call,
             line_text(), level_name(rank->level), atomic_load(&rank->site));
     end_run(fault_status(STATUS_WRONG), (struct question){ NULL, NULL });
 }
@@ -49,7 +49,7 @@ static void tell_two(const struct rank *rank, const char *call, const char *othe
     const char *at = atomic_load(&threads[rank->number].inside_at);
     tell_alone();
     flush_streams();
-    fprintf(stderr, "wzrun: rank %d: %s at %s: another thread is in %s at %s, and under MPI_THREAD_SERIALIZED threads call one at a time (MPI_ERR_OTHER)\n", rank->number, call,
+    fprintf(stderr, "%s: rank %d: %s at %s: another thread is in %s at %s, and under MPI_THREAD_SERIALIZED threads call one at a time (MPI_ERR_OTHER)\n", fault_head(), rank->number, call,
             line_text(), other, at != NULL ? at : "a line that isn't known");
     end_run(fault_status(STATUS_WRONG), (struct question){ NULL, NULL });
 }

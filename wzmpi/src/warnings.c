@@ -51,7 +51,7 @@ static int tell(const struct warning *warning) {
         told |= same;
         if (warning->times[i] > 1) snprintf(times, sizeof times, " (%u times)", warning->times[i]);
         else times[0] = '\0';
-        fprintf(stderr, "wzrun: warning: %s: %s%s\n", ranks_text(same, ranks), warning->text, times);
+        fprintf(stderr, "%s: %s: %s%s\n", warning_head(), ranks_text(same, ranks), warning->text, times);
         lines++;
     }
     return lines;
@@ -62,7 +62,7 @@ void tell_warnings(void) {
     pthread_mutex_lock(&guard);
     for (const struct warning *warning = first; warning != NULL; warning = warning->next) {
         if (lines < MOST_LINES) lines += tell(warning);
-        else if (warning->next == NULL) fprintf(stderr, "wzrun: warning: and there are more such warnings\n");
+        else if (warning->next == NULL) fprintf(stderr, "%s: and there are more such warnings\n", warning_head());
     }
     first = NULL;
     end = &first;

@@ -42,7 +42,7 @@ struct rank *rank_of_code(const void *address) {
 
 struct rank *this_rank(const char *call) {
     if (rank_of_code(__builtin_return_address(0)) != NULL) return current_rank;
-    fprintf(stderr, "wzrun: %s: the thread that calls it isn't one of a rank\n", call);
+    fprintf(stderr, "%s: %s: the thread that calls it isn't one of a rank\n", fault_head(), call);
     _exit(fault_status(STATUS_WRONG));
 }
 
@@ -117,7 +117,7 @@ int MPI_Abort(MPI_Comm comm, int status) {
     (void)comm;
     tell_alone();
     flush_streams();
-    fprintf(stderr, "wzrun: rank %d ends all by MPI_Abort(%d) at %s\n", me->number, status, me->site);
+    fprintf(stderr, "%s: rank %d ends all by MPI_Abort(%d) at %s\n", fault_head(), me->number, status, me->site);
     end_run((status & 255) != 0 ? status & 255 : 1, (struct question){ NULL, NULL });
 }
 

@@ -80,6 +80,15 @@ def check_words(binaries, program):
     return failed
 
 
+def check_colours(binaries, program):
+    """As colljob has them: none in a pipe, unless they are asked for."""
+    failed = 0
+    for words, head in ((["--color", "always"], "\033[1;31mwzrun\033[0m: rank 0: MPI_Barrier"), ([], "wzrun: rank 0: MPI_Barrier"), (["--color=never"], "wzrun: rank 0: MPI_Barrier")):
+        status, said = run([str(binaries / "wzrun"), "-n", "1", *words, program, "1", "2"])
+        failed += reported(status == 2 and said.startswith(head), f"wzrun {words}: status {status}: {said!r}")
+    return failed
+
+
 def check_help(binaries):
     """Each tool says first what it is for, in the field's words."""
     failed = 0
@@ -149,6 +158,6 @@ def check(binaries, out):
     folder = out / "calling.d"
     folder.mkdir()
     program = str(compiled(binaries, written(folder / "given.c", GIVEN), folder / "given"))
-    failed = check_words(binaries, program) + check_help(binaries) + check_compilers(binaries, folder) + check_cmake(binaries, folder) + check_spaces(binaries, folder)
+    failed = check_words(binaries, program) + check_colours(binaries, program) + check_help(binaries) + check_compilers(binaries, folder) + check_cmake(binaries, folder) + check_spaces(binaries, folder)
     print("check.py: the tools are called as mpirun and mpicc are" if failed == 0 else f"check.py: {failed} ways to call the tools failed")
     return failed

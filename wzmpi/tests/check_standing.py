@@ -25,14 +25,14 @@ LOOPS = {
       rank 0 sent one with another tag, tag 5, at loops.c:24, which nobody has received
   so they wait for one another: 0 -> 1 -> 0
 """),
-    "until": (0, NOT_SURE + """  ranks 0 and 2 wait in MPI_Barrier at loops.c:43
+    "later": (0, ""),
+}
+UNTIL = NOT_SURE + """  ranks 0 and 2 wait in MPI_Barrier at loops.c:43
     for MPI_Barrier, place 0 of MPI_COMM_WORLD, which rank 1 has not called
   rank 1 tests in vain in MPI_Iprobe at loops.c:42
     for a message from rank 0, tag 4: MPI_Iprobe at loops.c:42
   so they wait for one another: 0 -> 1 -> 0
-"""),
-    "later": (0, ""),
-}
+"""
 STANDING = """  ranks 0, 3 and 4 wait in MPI_Wait at loops.c:66
     for MPI_Ibarrier at loops.c:64, place 0 of MPI_COMM_WORLD, which rank 2 has not called
   rank 1 tests in vain for N s, at loops.c:9
@@ -60,6 +60,24 @@ def check_timeout(binaries, program, text):
     status, said = run([str(binaries / "wzrun"), *words, str(program), "computing"])
     right = (status, plain(said)) == (124, f"wzrun: --timeout ends the run after 5 s: here the ranks stand:\n{STANDING}") and "post 0 barrier" in text.read_text()
     return reported(right, f"loops computing, --timeout: status {status}:\n{said}")
+
+
+def check_warned(binaries, program, said):
+    """A loop that the time may end is warned of once, and the run goes on."""
+    with said.open("w") as to:
+        running = subprocess.Popen([str(binaries / "wzrun"), "-n", "3", str(program), "until"], stdout=to, stderr=to, preexec_fn=with_signals)
+    for _ in range(240):
+        time.sleep(0.5)
+        if plain(said.read_text()) == UNTIL:
+            break
+    goes_on = running.poll() is None
+    running.terminate()
+    try:
+        running.wait(timeout=60)
+    except subprocess.TimeoutExpired:
+        running.kill()
+        running.wait()
+    return reported(goes_on and plain(said.read_text()).startswith(UNTIL), f"loops until: goes on {goes_on}:\n{said.read_text()}")
 
 
 def ask_until_steady(running, said):
@@ -101,6 +119,6 @@ def check_signals(binaries, program, out):
 
 def check(binaries, out):
     program = compiled(binaries, HERE / "loops.c", out / "loops")
-    failed = check_loops(binaries, program) + check_timeout(binaries, program, out / "loops.job") + check_signals(binaries, program, out)
+    failed = check_loops(binaries, program) + check_warned(binaries, program, out / "loops.said") + check_timeout(binaries, program, out / "loops.job") + check_signals(binaries, program, out)
     print("check.py: it is told where ranks stand" if failed == 0 else f"check.py: {failed} runs of loops.c failed")
     return failed
