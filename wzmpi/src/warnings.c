@@ -85,7 +85,7 @@ void warn_of_left(struct rank *rank) {
     for (int kind = 0; kind < KINDS && the_run.strict; kind++) {
         const struct table *table = &rank->tables[kind];
         for (uint32_t i = 0; kinds[kind] != NULL && i < table->many; i++)
-            if (table->objects[i] != NULL) warn_at_end(rank->number, NULL, "never freed: %s of %s at %s", kinds[kind], table->makers[i].call, table->makers[i].site);
+            if (table->objects[i] != NULL && !(kind == TYPE && ((struct type *)table->objects[i])->predefined)) warn_at_end(rank->number, NULL, "never freed: %s of %s at %s", kinds[kind], table->makers[i].call, table->makers[i].site);
     }
     const struct table *taken = &rank->tables[TAKEN];
     for (uint32_t i = 0; i < taken->many; i++)

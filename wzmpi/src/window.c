@@ -40,6 +40,7 @@ static void end_window(void *served) {
     for (int i = 0; i < window->comm->size; i++) {
         struct window_member *member = &window->members[i];
         free(member->memory);
+        free(member->snapshot);
         free_accesses(member);
         for (struct region *region = member->regions, *next; region != NULL; region = next) {
             next = region->next;

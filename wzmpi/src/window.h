@@ -16,6 +16,8 @@ struct span {
 /* An access of a member that isn't known to be complete at its target. */
 struct access {
     int origin;
+    int target; /* of the call; another than whose memory it is, where the origin buffer lies in the origin's own window */
+    bool is_buffer; /* it is such an origin buffer */
     enum access_kind kind;
     enum epoch epoch;
     uint32_t code;      /* of the basic type that an accumulate computes with */
@@ -59,9 +61,12 @@ struct window_member {
     uint64_t fences, started, exposed; /* groups, as sets of members */
     bool has_started, is_exposed, has_locked_all;
     const char *fenced_at, *started_at, *exposed_at, *locked_all_at;
+    const char *between_fences; /* --strict: where another epoch was begun since the last fence; NULL: nowhere */
     int locks[MOST_RANKS]; /* MPI_LOCK_SHARED and so on, of each target; 0: none */
     const char *locked_at[MOST_RANKS];
-    struct held *held; /* accesses that --check holds back */
+    unsigned polls; /* flushes and syncs since this rank has last written something: a program may repeat them until another's access has come */
+    struct held *held;  /* accesses that --check holds back */
+    char *snapshot;     /* of its memory as the epoch of the last fence began; NULL: none */
     MPI_Info info;
 };
 
@@ -75,6 +80,7 @@ struct window {
 /* The window of a handle. NULL: it names none, which is told; *code is the class then. */
 struct window *find_window(MPI_Win win, const char *call, int *code);
 struct window_member *my_window(struct window *window);
+void let_others_write(struct window *window); /* now and then, of flushes and syncs that a program may repeat until something has come */
 
 /* ---- window_locks.c */
 int take_lock(struct window *window, int target, bool exclusive, const char *call);
@@ -97,6 +103,9 @@ int judge_epoch(struct window *window, int target, bool by_request, const char *
 int judge_range(struct window *window, MPI_Aint displacement, const char *call, struct target *target);
 /* Notes an access if none that isn't complete conflicts with it. *NUMBER becomes its own, where NUMBER isn't NULL. */
 int note_access(struct window *window, const struct target *target, const struct access *access, uint64_t *number);
+/* The same of an origin buffer, where it lies in this rank's own window: a put reads it, and a get writes it. */
+int note_origin(struct window *window, const void *buffer, MPI_Count many, const struct type *type, const struct access *access);
+void end_started(struct window *window); /* of this rank's origin buffers, as MPI_Win_complete is called */
 void end_accesses(struct window *window, int target, bool gets_alone); /* of this rank, under a lock */
 void end_numbered(struct window *window, int target, uint64_t number);
 void end_exposure(struct window *window);
@@ -114,6 +123,8 @@ struct moved {
 };
 bool hold_back(struct window *window, const struct moved *moved); /* false: it is carried out now */
 int release_held(struct window *window, int target, const char *call); /* of all targets: -1 */
+void take_snapshot(struct window *window); /* of this rank's memory, as a fence begins an epoch */
+int judge_snapshot(struct window *window, const struct target *target, const char *call); /* that its rank hasn't changed since then what is accessed */
 
 /* ---- window_access.c */
 int finish_access(struct request *request, MPI_Status *status);

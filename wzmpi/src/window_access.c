@@ -196,19 +196,36 @@ int finish_access(struct request *request, MPI_Status *status) {
     return MPI_SUCCESS;
 }
 
+/* Accesses with requests give their buffers back at their own time, and so aren't looked at. */
+static int note_buffers(const struct wanted *wanted, const struct known *known, const struct access *access) {
+    struct access read = *access, written = *access;
+    int code = MPI_SUCCESS;
+    read.kind = PUTS;
+    written.kind = GETS;
+    bool by_request = wanted->call[4] == 'R';
+    if (by_request) return code;
+    if (known->origin != NULL) code = note_origin(known->window, wanted->origin, wanted->many, known->origin, &read);
+    if (code == MPI_SUCCESS && known->result != NULL) code = note_origin(known->window, wanted->result, wanted->result_many, known->result, &written);
+    return code;
+}
+
 static int carry(const struct wanted *wanted, MPI_Request *made) {
     int code;
     uint64_t number = 0;
     struct known known = { .window = find_window(wanted->window, wanted->call, &code) };
     if (known.window == NULL) return code;
+    bool writes = wanted->kind != GETS && wanted->operation != MPI_NO_OP && wanted->compared == NULL;
+    if (writes) my_window(known.window)->polls = 0;
     hold_up();
     if (wanted->target != MPI_PROC_NULL) {
         code = judge(wanted, &known, made != NULL);
         if (code != MPI_SUCCESS) return code;
         const struct type *type = known.target.type;
-        struct access access = { .origin = my_member(known.window->comm), .kind = wanted->kind, .epoch = known.target.epoch, .code = type->basic > 0 ? basic_type(type->basic)->code : 0,
+        struct access access = { .origin = my_member(known.window->comm), .target = wanted->target, .kind = wanted->kind, .epoch = known.target.epoch, .code = type->basic > 0 ? basic_type(type->basic)->code : 0,
                                  .operation = known.op != NULL ? known.op->number : 0, .call = wanted->call, .site = current_rank->site };
         code = note_access(known.window, &known.target, &access, made != NULL ? &number : NULL);
+        if (code == MPI_SUCCESS) code = note_buffers(wanted, &known, &access);
+        if (code == MPI_SUCCESS && wanted->kind != ACCUMULATES) code = judge_snapshot(known.window, &known.target, wanted->call);
         if (code != MPI_SUCCESS) return code;
         move(wanted, &known);
     }

@@ -149,7 +149,7 @@ static int tell_conflict(struct window *window, int target, const struct access 
 static bool continues(const struct access *newest, const struct access *access) {
     return newest != NULL && newest->many == 1 && access->many == 1 && newest->spans[0].high == access->spans[0].low && newest->origin == access->origin &&
            newest->kind == access->kind && newest->site == access->site && newest->fences == access->fences && newest->epoch == access->epoch && newest->code == access->code &&
-           newest->operation == access->operation && newest->number == 0 && access->number == 0;
+           newest->operation == access->operation && newest->number == 0 && access->number == 0 && newest->target == access->target;
 }
 
 static void keep(struct window_member *there, struct access *access) {
@@ -183,6 +183,21 @@ int note_access(struct window *window, const struct target *target, const struct
     return code;
 }
 
+/* The same spans, from the window's beginning on. */
+int note_origin(struct window *window, const void *buffer, MPI_Count many, const struct type *type, const struct access *like) {
+    struct window_member *mine = my_window(window);
+    bool dynamic = window->flavor == MPI_WIN_FLAVOR_DYNAMIC;
+    struct target own = { my_member(window->comm), (char *)(uintptr_t)buffer, dynamic ? (MPI_Aint)buffer : (MPI_Aint)((const char *)buffer - mine->base), many, type, like->epoch };
+    if (many == 0 || type->size == 0 || buffer == NULL) return MPI_SUCCESS;
+    MPI_Aint low = low_of(&own), high = high_of(&own);
+    bool inside = dynamic ? is_attached(mine, low, high) : low < mine->size && high > 0;
+    if (!inside) return MPI_SUCCESS;
+    struct access access = *like;
+    access.kind = like->kind == GETS ? PUTS : GETS; /* as it is for this memory */
+    access.is_buffer = true;
+    return note_access(window, &own, &access, NULL);
+}
+
 /* ---- what is complete */
 
 /* Forgets those of a target that WHICH says. */
@@ -201,9 +216,15 @@ static void forget(struct window_member *there, bool (*which)(const struct acces
     pthread_mutex_unlock(&there->guard);
 }
 
-static bool is_of_origin(const struct access *access, uint64_t origin) { return access->epoch == LOCK_EPOCH && access->origin == (int)origin; }
+enum { TARGET_SHIFT = 8 }; /* of a word that has an origin and a target */
 
-static bool is_get_of_origin(const struct access *access, uint64_t origin) { return access->kind == GETS && is_of_origin(access, origin); }
+static bool is_of_origin(const struct access *access, uint64_t word) {
+    return access->epoch == LOCK_EPOCH && access->origin == (int)(word & ((1u << TARGET_SHIFT) - 1)) && access->target == (int)(word >> TARGET_SHIFT);
+}
+
+static bool is_here_of_origin(const struct access *access, uint64_t word) { return (access->kind == GETS || access->is_buffer) && is_of_origin(access, word); }
+
+static bool is_own_start(const struct access *access, uint64_t origin) { return access->epoch == START_EPOCH && access->origin == (int)origin; }
 
 static bool has_number(const struct access *access, uint64_t number) { return access->number == number; }
 
@@ -214,10 +235,14 @@ static bool is_before(const struct access *access, uint64_t fences) { return acc
 static bool is_any(const struct access *access, uint64_t unused) { return (void)access, (void)unused, true; }
 
 void end_accesses(struct window *window, int target, bool gets_alone) {
-    forget(&window->members[target], gets_alone ? is_get_of_origin : is_of_origin, (uint64_t)my_member(window->comm));
+    uint64_t word = (uint64_t)my_member(window->comm) | (uint64_t)target << TARGET_SHIFT;
+    forget(&window->members[target], gets_alone ? is_here_of_origin : is_of_origin, word);
+    if (target != my_member(window->comm)) forget(my_window(window), is_of_origin, word); /* origin buffers are the program's again */
 }
 
 void end_numbered(struct window *window, int target, uint64_t number) { forget(&window->members[target], has_number, number); }
+
+void end_started(struct window *window) { forget(my_window(window), is_own_start, (uint64_t)my_member(window->comm)); }
 
 void end_exposure(struct window *window) { forget(my_window(window), is_of_start, 0); }
 

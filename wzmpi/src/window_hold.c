@@ -1,15 +1,17 @@
 /* --check: until an access is completed its origin buffer stays as it is, and where a put will come, or what a get will bring, nobody looks. A put is held back till
-   then where its target takes part in the epoch, and a get always: until then there are bytes of 0xa5, as in the buffers of other nonblocking calls. */
+   then where its target takes part in the epoch, and a get always: until then there are bytes of 0xa5, as in the buffers of other nonblocking calls. Between
+   fences a rank's own stores to what others access are seen by a snapshot of its memory, and by what a get would have brought as it was called. */
 #include "diagnostics.h"
 #include "window.h"
 
-enum { NOBODYS = 0xa5 };
+enum { NOBODYS = 0xa5, LARGEST_SNAPSHOT = 64 << 20 };
 
 struct held {
     struct moved moved;
     const char *site;
     size_t length, target_length;
     char *bytes; /* a put's, or an accumulate's: what the origin buffer had */
+    char *seen;  /* a get's, between fences: what the target's memory had */
     struct held *next;
 };
 
@@ -48,6 +50,10 @@ bool hold_back(struct window *window, const struct moved *moved) {
         held->bytes = must(malloc(held->length + 1));
         pack(moved->origin_type, (size_t)moved->origin_many, moved->origin, held->bytes);
     }
+    if (moved->kind == GETS && moved->target.epoch == FENCE_EPOCH) {
+        held->seen = must(malloc(length_of(moved->target.many, moved->target.type) + 1));
+        pack(moved->target.type, (size_t)moved->target.many, moved->target.at, held->seen);
+    }
     if (is_late_put(moved)) fill(moved->target.many, moved->target.type, moved->target.at);
     if (moved->kind == GETS) fill(moved->origin_many, moved->origin_type, moved->origin);
     struct held **last = &mine->held;
@@ -77,6 +83,9 @@ static int judge_held(struct window *window, const struct held *held, const char
     if (is_late_put(moved) && !has(moved->target.many, moved->target.type, moved->target.at, NULL))
         return refuse(window->comm, MPI_ERR_RMA_CONFLICT, call, "rank %d has changed its own memory where %s at %s puts something in the same epoch",
                       window->comm->members[moved->target.member].rank, moved->call, held->site);
+    if (held->seen != NULL && !has(moved->target.many, moved->target.type, moved->target.at, held->seen))
+        return refuse(window->comm, MPI_ERR_RMA_CONFLICT, call, "rank %d has changed its own memory where %s at %s reads it in the same epoch",
+                      window->comm->members[moved->target.member].rank, moved->call, held->site);
     return MPI_SUCCESS;
 }
 
@@ -95,7 +104,32 @@ int release_held(struct window *window, int target, const char *call) {
         type_unuse(held->moved.origin_type);
         type_unuse(held->moved.target.type);
         free(held->bytes);
+        free(held->seen);
         free(held);
     }
     return code;
+}
+
+/* ---- what a rank has written since a fence */
+
+void take_snapshot(struct window *window) {
+    struct window_member *mine = my_window(window);
+    free(mine->snapshot);
+    mine->snapshot = NULL;
+    if (!the_run.checks || mine->size <= 0 || mine->size > LARGEST_SNAPSHOT) return;
+    mine->snapshot = must(malloc((size_t)mine->size));
+    memcpy(mine->snapshot, mine->base, (size_t)mine->size);
+}
+
+int judge_snapshot(struct window *window, const struct target *target, const char *call) {
+    const struct window_member *there = &window->members[target->member];
+    if (target->epoch != FENCE_EPOCH || there->snapshot == NULL || target->many == 0) return MPI_SUCCESS;
+    size_t length = length_of(target->many, target->type);
+    char *then = must(malloc(length + 1));
+    pack(target->type, (size_t)target->many, there->snapshot + target->first, then);
+    bool same = has(target->many, target->type, target->at, then);
+    free(then);
+    if (same) return MPI_SUCCESS;
+    return refuse(window->comm, MPI_ERR_RMA_CONFLICT, call, "rank %d has changed its own memory there since MPI_Win_fence at %s, in the same epoch",
+                  window->comm->members[target->member].rank, my_window(window)->fenced_at);
 }

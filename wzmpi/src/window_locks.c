@@ -97,6 +97,7 @@ static int judge_lock(struct window *window, const char *call) {
     if (mine->has_started) return refuse(window->comm, MPI_ERR_RMA_SYNC, call, "the epoch of MPI_Win_start at %s is open", mine->started_at);
     if (mine->fence_is_open && mine->fence_is_used)
         return refuse(window->comm, MPI_ERR_RMA_SYNC, call, "the epoch of MPI_Win_fence at %s is open, and was used", mine->fenced_at);
+    if (mine->fence_is_open) mine->between_fences = current_rank->site;
     mine->fence_is_open = false;
     return MPI_SUCCESS;
 }
@@ -178,6 +179,11 @@ int MPI_Win_unlock_all(MPI_Win handle) {
 
 /* ---- completing accesses under a lock (MPI 4.1, 12.5.4). What is only completed here, and not at the target, still conflicts with others' accesses. */
 
+void let_others_write(struct window *window) {
+    enum { PATIENCE = 16 };
+    if (++my_window(window)->polls % PATIENCE == 0) sched_yield();
+}
+
 static int flush(MPI_Win handle, int target, bool gets_alone, const char *call) {
     int code;
     struct window *window = find_window(handle, call, &code);
@@ -191,7 +197,7 @@ static int flush(MPI_Win handle, int target, bool gets_alone, const char *call) 
     if (!locked) return refuse(window->comm, MPI_ERR_RMA_SYNC, call, "this rank holds no lock of %s", all ? "the window" : "that rank's memory");
     code = release_held(window, all ? -1 : target, call);
     for (int i = all ? 0 : target; i < (all ? window->comm->size : target + 1); i++) end_accesses(window, i, gets_alone);
-    sched_yield(); /* a program may flush until another's access has come */
+    let_others_write(window);
     return code;
 }
 
@@ -208,6 +214,6 @@ int MPI_Win_sync(MPI_Win handle) {
     struct window *window = find_window(handle, "MPI_Win_sync", &code);
     if (window == NULL) return code;
     atomic_thread_fence(memory_order_seq_cst);
-    sched_yield();
+    let_others_write(window);
     return code;
 }

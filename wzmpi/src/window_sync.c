@@ -24,6 +24,9 @@ static int judge_fence(struct window *window, int assertions, const char *call) 
     if ((assertions & MPI_MODE_NOPRECEDE) != 0 && mine->fence_is_used)
         return refuse(window->comm, MPI_ERR_RMA_SYNC, call, "MPI_MODE_NOPRECEDE says that nothing was accessed since MPI_Win_fence at %s, and this rank has accessed something",
                       mine->fenced_at);
+    if (the_run.strict && mine->between_fences != NULL && (assertions & MPI_MODE_NOPRECEDE) == 0)
+        return refuse(window->comm, MPI_ERR_RMA_SYNC, call, "the lock at %s lies between MPI_Win_fence at %s and this one, whose epoch lacks MPI_MODE_NOSUCCEED and MPI_MODE_NOPRECEDE",
+                      mine->between_fences, mine->fenced_at);
     return MPI_SUCCESS;
 }
 
@@ -32,6 +35,14 @@ static int meet(struct window *window, const char *call) {
     int code = post_and_wait(window->comm, &(struct arguments){ .function = COMM_DUP, .form = BLOCKING, .name = call }, &done);
     if (code == MPI_SUCCESS) drop_request(done);
     return code;
+}
+
+/* --check. All have come, so that nobody accesses its own memory any more; nor does it before all that was held back is done, and each has looked at its own. */
+static int release_and_look(struct window *window, const char *call) {
+    int code = release_held(window, -1, call);
+    if (code == MPI_SUCCESS) code = meet(window, call);
+    take_snapshot(window);
+    return code == MPI_SUCCESS ? meet(window, call) : code;
 }
 
 int MPI_Win_fence(int assertions, MPI_Win handle) {
@@ -43,11 +54,12 @@ int MPI_Win_fence(int assertions, MPI_Win handle) {
     if (code == MPI_SUCCESS) code = meet(window, call);
     if (code != MPI_SUCCESS) return code;
     struct window_member *mine = my_window(window);
-    code = release_held(window, -1, call); /* all have come, so that nobody accesses its own memory any more */
-    if (the_run.checks && code == MPI_SUCCESS) code = meet(window, call);
+    if (the_run.checks) code = release_and_look(window, call);
+    if (code != MPI_SUCCESS) return code;
     mine->fences++;
     mine->fence_is_open = (assertions & MPI_MODE_NOSUCCEED) == 0;
     mine->fence_is_used = false;
+    mine->between_fences = NULL;
     mine->fenced_at = current_rank->site;
     end_fenced(window);
     return code;
@@ -163,6 +175,7 @@ int MPI_Win_complete(MPI_Win handle) {
     struct window_member *mine = my_window(window);
     if (!mine->has_started) return refuse(window->comm, MPI_ERR_RMA_SYNC, call, "this rank hasn't called MPI_Win_start");
     code = release_held(window, -1, call);
+    end_started(window);
     mine->has_started = false;
     send_signals(window, mine->started, COMPLETE_TAG, call);
     return code;

@@ -4,7 +4,7 @@
     tests/mbi.py FOLDER [--bin BIN] [--only WORD ..] [--every N] [--options WORDS] [--jobs N] [--list]
 
 FOLDER has the generators of its programs, as teshsuite/smpi/MBI of SimGrid's sources (Debian has them: apt-get source simgrid), or programs that they
-have made. Those of one-sided calls are left out. Each program says in its head with how many ranks it runs, whether it has a mistake, of which kind, and
+have made. Each program says in its head with how many ranks it runs, whether it has a mistake, of which kind, and
 in which lines. It runs under WORDS, "--strict --check" where none are given. A right program is accused where wzrun says anything; a wrong one is reported
 where wzrun ends the run, warned of where it says something else, and missed where it says nothing. --only takes programs whose name has one of the words,
 --every each N-th. --list also has a line for each program that is accused, missed or not built. Ends with 1 where a right program is accused.
@@ -30,7 +30,7 @@ Run = collections.namedtuple("Run", "ranks label lines")
 
 def made_by_generators(folder, out):
     """The programs that a folder has or that its generators make."""
-    generators = [it for it in sorted(folder.glob("*Generator.py")) if not it.name.startswith("RMA")]
+    generators = sorted(folder.glob("*Generator.py"))
     if not generators:
         return sorted(folder.glob("*.c"))
     shutil.copytree(folder, out, dirs_exist_ok=True)

@@ -176,6 +176,33 @@ static void put_store(void) {
     if (rank == 1) memory[0] = 5;
     fence();
 }
+static void store_put(void) {
+    fence();
+    if (rank == 1) memory[0] = 5;
+    MPI_Barrier(MPI_COMM_WORLD);
+    if (rank == 0) put(1, 1, 0);
+    fence();
+}
+static void get_store(void) {
+    fence();
+    if (rank == 0) MPI_Get(others, 2, MPI_INT, 1, 0, 2, MPI_INT, window);
+    MPI_Barrier(MPI_COMM_WORLD);
+    if (rank == 1) memory[1] = 5;
+    fence();
+}
+static void put_into_origin(void) {
+    fence();
+    if (rank == 0) put(1, 1, 0);
+    MPI_Barrier(MPI_COMM_WORLD);
+    if (rank == 1) MPI_Put(memory, 2, MPI_INT, 2, 4, 2, MPI_INT, window);
+}
+static void lock_between_fences(void) {
+    fence();
+    if (rank == 0) MPI_Win_lock(MPI_LOCK_SHARED, 1, 0, window);
+    if (rank == 0) put(1, 1, 0);
+    if (rank == 0) MPI_Win_unlock(1, window);
+    fence();
+}
 static void changed_origin(void) {
     fence();
     if (rank == 0) put(1, 1, 0);
@@ -278,7 +305,8 @@ static const struct {
 } cases[] = {
     CASE(no_epoch), CASE(after_unlock), CASE(other_lock), CASE(not_in_group), CASE(no_succeed), CASE(request_in_fence), CASE(no_precede),
     CASE(outside), CASE(outside_by_type), CASE(negative), CASE(no_rank), CASE(other_type), CASE(other_amount), CASE(uncommitted), CASE(not_for_type), CASE(own_operation),
-    CASE(swapped_real), CASE(not_attached), CASE(put_put), CASE(put_get), CASE(put_accumulate), CASE(own_put_get), CASE(two_types), CASE(two_operations), CASE(put_store),
+    CASE(swapped_real), CASE(not_attached), CASE(put_put), CASE(put_get), CASE(put_accumulate), CASE(own_put_get), CASE(two_types), CASE(two_operations), CASE(put_store), CASE(store_put),
+    CASE(get_store), CASE(put_into_origin), CASE(lock_between_fences),
     CASE(changed_origin), CASE(changed_result), CASE(lacking_fence), CASE(fence_and_free), CASE(create_and_barrier), CASE(two_locks), CASE(no_lock), CASE(no_lock_to_flush),
     CASE(lock_in_fence), CASE(fence_in_lock), CASE(held_for_ever), CASE(no_start), CASE(no_post), CASE(two_posts), CASE(lacking_post), CASE(lacking_complete),
     CASE(freed_while_locked), CASE(freed_while_used), CASE(freed), CASE(cancelled), CASE(no_unit), CASE(no_base),
