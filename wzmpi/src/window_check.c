@@ -35,13 +35,23 @@ static MPI_Aint high_of(const struct target *target) {
     return target->first + target->type->true_low + target->type->true_extent + (across > 0 ? across : 0);
 }
 
+/* The attached region that has an address; NULL: none has. */
+static const struct region *region_at(const struct window_member *there, MPI_Aint address) {
+    const struct region *region = there->regions;
+    while (region != NULL && (address < (MPI_Aint)region->base || address >= (MPI_Aint)region->base + region->size)) region = region->next;
+    return region;
+}
+
+/* Regions that touch are as one. */
 static bool is_attached(struct window_member *there, MPI_Aint low, MPI_Aint high) {
-    bool found = false;
     pthread_mutex_lock(&there->guard);
-    for (const struct region *region = there->regions; region != NULL && !found; region = region->next)
-        found = low >= (MPI_Aint)region->base && high <= (MPI_Aint)region->base + region->size;
+    while (low < high) {
+        const struct region *region = region_at(there, low);
+        if (region == NULL) break;
+        low = (MPI_Aint)region->base + region->size;
+    }
     pthread_mutex_unlock(&there->guard);
-    return found;
+    return low >= high;
 }
 
 int judge_range(struct window *window, MPI_Aint displacement, const char *call, struct target *target) {
@@ -120,11 +130,12 @@ static bool meet_at(const struct access *one, const struct access *other, struct
     return false;
 }
 
-/* Accumulates of one type may meet; --strict: with one operation, as the hint accumulate_ops says where a program doesn't set it (MPI 4.1, 12.2.1). */
+/* A rank's puts to one place have no order either, though libraries keep one: programs lean on it, so only --strict tells. Accumulates of one type may meet; --strict: with one operation, as the hint accumulate_ops says where a program doesn't set it (MPI 4.1, 12.2.1). */
 static bool may_not_meet(const struct access *one, const struct access *other) {
     enum { NO_OPERATION = 14 };
     if (one->fences != other->fences) return false;
     if (one->kind == GETS && other->kind == GETS) return false;
+    if (one->kind == PUTS && other->kind == PUTS && one->origin == other->origin && !the_run.strict) return false;
     if (one->kind != ACCUMULATES || other->kind != ACCUMULATES) return true;
     if (one->code != other->code) return true;
     bool idle = one->operation == NO_OPERATION || other->operation == NO_OPERATION || one->origin == other->origin;

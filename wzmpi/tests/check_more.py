@@ -19,7 +19,7 @@ import checking
 HERE = checking.HERE
 # The options of each wrong program that isn't run as `wzrun -n 3`, by source.
 OPTIONS = {
-    "windows_wrong": {"two_operations": "-n 3 --strict", "put_store": "-n 3 --check", "store_put": "-n 3 --check", "get_store": "-n 3 --check",
+    "windows_wrong": {"two_operations": "-n 3 --strict", "own_put_put": "-n 3 --strict", "put_store": "-n 3 --check", "store_put": "-n 3 --check", "get_store": "-n 3 --check",
                       "lock_between_fences": "-n 3 --strict", "changed_origin": "-n 3 --check", "changed_result": "-n 3 --check"},
 }
 # How many ranks the right programs of a source are run with.

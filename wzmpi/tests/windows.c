@@ -196,6 +196,14 @@ static void dynamic(void) {
     MPI_Win_fence(0, parts);
     HOLDS(got == made[2]);
     MPI_Win_detach(parts, made);
+    MPI_Win_attach(parts, made, 8);
+    MPI_Win_attach(parts, made + 2, 8); /* what touches is one */
+    MPI_Barrier(MPI_COMM_WORLD);
+    MPI_Put(&(int[2]){ rank, rank }, 2, MPI_INT, (rank + 1) % size, MPI_Aint_add(there[(rank + 1) % size], 4), 2, MPI_INT, parts);
+    MPI_Win_fence(0, parts);
+    HOLDS(made[1] == made[2] && made[2] == (rank + size - 1) % size && made[3] == 0);
+    MPI_Win_detach(parts, made + 2);
+    MPI_Win_detach(parts, made);
     MPI_Win_free(&parts);
     free(made);
 }

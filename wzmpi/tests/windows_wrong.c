@@ -157,6 +157,13 @@ static void own_put_get(void) {
     MPI_Get(others, 1, MPI_INT, 0, 0, 1, MPI_INT, window);
     MPI_Win_unlock(0, window);
 }
+static void own_put_put(void) {
+    if (rank != 2) return;
+    MPI_Win_lock(MPI_LOCK_EXCLUSIVE, 0, 0, window);
+    put(2, 0, 0);
+    put(1, 0, 1);
+    MPI_Win_unlock(0, window);
+}
 static void two_types(void) {
     fence();
     if (rank == 0) accumulate(1, MPI_SUM);
@@ -305,7 +312,7 @@ static const struct {
 } cases[] = {
     CASE(no_epoch), CASE(after_unlock), CASE(other_lock), CASE(not_in_group), CASE(no_succeed), CASE(request_in_fence), CASE(no_precede),
     CASE(outside), CASE(outside_by_type), CASE(negative), CASE(no_rank), CASE(other_type), CASE(other_amount), CASE(uncommitted), CASE(not_for_type), CASE(own_operation),
-    CASE(swapped_real), CASE(not_attached), CASE(put_put), CASE(put_get), CASE(put_accumulate), CASE(own_put_get), CASE(two_types), CASE(two_operations), CASE(put_store), CASE(store_put),
+    CASE(swapped_real), CASE(not_attached), CASE(put_put), CASE(put_get), CASE(put_accumulate), CASE(own_put_get), CASE(own_put_put), CASE(two_types), CASE(two_operations), CASE(put_store), CASE(store_put),
     CASE(get_store), CASE(put_into_origin), CASE(lock_between_fences),
     CASE(changed_origin), CASE(changed_result), CASE(lacking_fence), CASE(fence_and_free), CASE(create_and_barrier), CASE(two_locks), CASE(no_lock), CASE(no_lock_to_flush),
     CASE(lock_in_fence), CASE(fence_in_lock), CASE(held_for_ever), CASE(no_start), CASE(no_post), CASE(two_posts), CASE(lacking_post), CASE(lacking_complete),
