@@ -12,6 +12,8 @@ SANITIZERS = {
     "thread": ("libtsan.so", {"TSAN_OPTIONS": "ignore_noninstrumented_modules=1"}, {"race": "ThreadSanitizer: data race"}),
 }
 RIGHT = ["average.c", "early.c", "hello.cpp"]
+# A race is seen where the threads' accesses come close to one another, which a busy machine may prevent.
+MOST_TRIES = 10
 
 
 def library_of(name):
@@ -32,7 +34,10 @@ def check_one(binaries, out, name, library):
         status, said = run([str(binaries / "wzrun"), "-n", "3", str(program)], env=environment)
         failed += reported(status == 0 and "Sanitizer" not in said, f"-fsanitize={name}, {source.name}: status {status}:\n{said[:3000]}")
     for case, words in wrong.items():
-        status, said = run([str(binaries / "wzrun"), "-n", "3", str(program), case], env=environment)
+        for _ in range(MOST_TRIES):
+            status, said = run([str(binaries / "wzrun"), "-n", "3", str(program), case], env=environment)
+            if status != 0:
+                break
         failed += reported(status != 0 and words in said, f"-fsanitize={name}, sanitized {case}: status {status}:\n{said[:3000]}")
     return failed
 

@@ -73,7 +73,7 @@ fn draw_waits_command<'a>(alloc: Global) -> Result<Command<'a>, AllocError> {
         .action(ArgAction::SetTrue)
         .help("Draws a graph in the DOT language, which Graphviz reads, in place of lines");
     Command::new(alloc, "waits")
-        .about("Draws who waits for whom where the runs of a job text stall, as `explain` does")
+        .about("Draws who waits for whom in a job that can deadlock, as `explain` reports it")
         .arg(dot)?
         .arg(all_ranks(alloc))?
         .arg(text_file(alloc))
