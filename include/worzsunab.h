@@ -31,24 +31,27 @@ extern const int32_t wz_proved;
 /* ---- collectives */
 
 /* Kinds (wz_call.kind), with the MPI call and the bytes that member r of n gives and gets. A block is count
-   elements. */
+   elements. WZ_ALLGATHERV has functions of its own, because a wz_call has no counts: wz_post_allgatherv. */
+/* tools/words: kinds */
 enum {
-    WZ_BARRIER = 0,              /* MPI_Ibarrier               gives 0                     gets 0                     */
-    WZ_BCAST = 1,                /* MPI_Ibcast                 root a block, others 0      a block                    */
-    WZ_GATHER = 2,               /* MPI_Igather                a block                     root n blocks, others 0    */
-    WZ_SCATTER = 3,              /* MPI_Iscatter               root n blocks, others 0     a block                    */
-    WZ_ALLGATHER = 4,            /* MPI_Iallgather             a block                     n blocks                   */
-    WZ_ALLTOALL = 5,             /* MPI_Ialltoall              n blocks                    n blocks                   */
-    WZ_REDUCE = 6,               /* MPI_Ireduce                a block                     root a block, others 0     */
-    WZ_ALLREDUCE = 7,            /* MPI_Iallreduce             a block                     a block                    */
-    WZ_REDUCE_SCATTER_BLOCK = 8, /* MPI_Ireduce_scatter_block  n blocks                    a block                    */
-    WZ_SCAN = 9,                 /* MPI_Iscan                  a block                     a block                    */
-    WZ_EXSCAN = 10,              /* MPI_Iexscan                a block                     a block, member 0 gets 0   */
-    WZ_ALLGATHERV = 11           /* MPI_Iallgatherv            counts[r] elements          what all give, in order;
-                                    it has functions of its own, since a wz_call has no counts: wz_post_allgatherv */
+    WZ_BARRIER = 0,              /* MPI_Ibarrier              gives 0                       gets 0 */
+    WZ_BCAST = 1,                /* MPI_Ibcast                gives root a block, others 0  gets a block */
+    WZ_GATHER = 2,               /* MPI_Igather               gives a block                 gets root n blocks, others 0 */
+    WZ_SCATTER = 3,              /* MPI_Iscatter              gives root n blocks, others 0 gets a block */
+    WZ_ALLGATHER = 4,            /* MPI_Iallgather            gives a block                 gets n blocks */
+    WZ_ALLTOALL = 5,             /* MPI_Ialltoall             gives n blocks                gets n blocks */
+    WZ_REDUCE = 6,               /* MPI_Ireduce               gives a block                 gets root a block, others 0 */
+    WZ_ALLREDUCE = 7,            /* MPI_Iallreduce            gives a block                 gets a block */
+    WZ_REDUCE_SCATTER_BLOCK = 8, /* MPI_Ireduce_scatter_block gives n blocks                gets a block */
+    WZ_SCAN = 9,                 /* MPI_Iscan                 gives a block                 gets a block */
+    WZ_EXSCAN = 10,              /* MPI_Iexscan               gives a block                 gets a block, member 0 gets 0 */
+    WZ_ALLGATHERV = 11,          /* MPI_Iallgatherv           gives counts[r] elements      gets what all give, in order */
+    WZ_KINDS = 12                /* the first number that names none */
 };
+/* tools/words: end of kinds */
 
 /* Operations (wz_call.op), with their MPI names (MPI 4.1, 6.9.2 and 6.9.4). */
+/* tools/words: operations */
 enum {
     WZ_NO_OPERATION = 0, /* of the kinds that have none */
     WZ_MAX = 1,          /* MPI_MAX */
@@ -63,10 +66,13 @@ enum {
     WZ_BXOR = 10,        /* MPI_BXOR */
     WZ_LASTNZ = 11,      /* the second element where it isn't 0, else the first; not commutative, as a user's may be */
     WZ_MAXLOC = 12,      /* MPI_MAXLOC */
-    WZ_MINLOC = 13       /* MPI_MINLOC */
+    WZ_MINLOC = 13,      /* MPI_MINLOC */
+    WZ_OPERATIONS = 14   /* the first number that names none */
 };
+/* tools/words: end of operations */
 
 /* Types (wz_call.type), with the MPI type and the bytes of an element. Numbers are little-endian. */
+/* tools/words: types */
 enum {
     WZ_INT8 = 0,   /* MPI_INT8_T, 1 */
     WZ_INT16 = 1,  /* MPI_INT16_T, 2 */
@@ -77,8 +83,10 @@ enum {
     WZ_UINT32 = 6, /* MPI_UINT32_T, 4 */
     WZ_UINT64 = 7, /* MPI_UINT64_T, 8 */
     WZ_BYTE = 8,   /* MPI_BYTE, 1; for the operations on bits alone */
-    WZ_2INT = 9    /* MPI_2INT, 8: a value and its index; for WZ_MAXLOC and WZ_MINLOC alone */
+    WZ_2INT = 9,   /* MPI_2INT, 8; a value and its index, each an int32_t; for maxloc and minloc alone */
+    WZ_TYPES = 10  /* the first number that names none */
 };
+/* tools/words: end of types */
 
 /* What all members of a communicator have to agree on at one place of their posting lists: the numbers above. A kind
    without a root has root 0, which is a member number; a barrier has count 0. */

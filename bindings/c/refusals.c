@@ -106,10 +106,11 @@ static void posts(void) {
         WANT(answer, wz_post(&engine, 0, 0, &call, &number, 4, &request));                                         \
         WANT(answer, wz_init(&engine, 0, 0, &call, &request));                                                     \
     } while (0)
+    BAD_CALL(WZ_BAD_NUMBER, kind, WZ_KINDS);
     BAD_CALL(WZ_BAD_NUMBER, kind, 200);
-    BAD_CALL(WZ_BAD_NUMBER, op, 14);
+    BAD_CALL(WZ_BAD_NUMBER, op, WZ_OPERATIONS);
     BAD_CALL(WZ_BAD_NUMBER, op, 255);
-    BAD_CALL(WZ_BAD_NUMBER, type, 10);
+    BAD_CALL(WZ_BAD_NUMBER, type, WZ_TYPES);
     BAD_CALL(WZ_BAD_SIGNATURE, root, 1);
     BAD_CALL(WZ_BAD_SIGNATURE, op, WZ_NO_OPERATION);
     BAD_CALL(WZ_BAD_SIGNATURE, op, WZ_MAXLOC);

@@ -4,6 +4,7 @@ import collections
 
 from agreement import SAME, call_name, compare_data, part
 from differences import difference_lines
+from job_words import KINDS, OPERATIONS, WIDTHS
 from records import rank_words
 from text_places import LAST, MADE, NOT_JUDGED
 
@@ -11,7 +12,6 @@ MOST_RANKS, MOST_COMMUNICATORS, MOST_REQUESTS, MOST_TEXT = 64, 16, 4096, 1048576
 MOST_COUNT, MOST_BYTES = 65536, 16777216
 # Values of longer rows aren't in a record. Where a text becomes too long, shorter rows lose theirs too.
 LONGEST = [4096, 1024, 256, 64, 16, 4]
-WIDTHS = {"i8": 1, "u8": 1, "byte": 1, "i16": 2, "u16": 2, "i32": 4, "u32": 4, "i64": 8, "u64": 8, "2int": 8}
 ENDLESS = 1 << 60
 # The words that complete all requests that they name.
 COMPLETING = ("wait", "waitall")
@@ -20,14 +20,11 @@ MULTIPLE = 3
 # How many faults stand in the head of a text, which may not show them.
 MOST_NOTED = 3
 
-KINDS = {"Barrier": "barrier", "Bcast": "bcast", "Gather": "gather", "Scatter": "scatter", "Allgather": "allgather", "Allgatherv": "allgatherv", "Alltoall": "alltoall",
-         "Reduce": "reduce", "Allreduce": "allreduce", "Reduce_scatter_block": "rsblock", "Scan": "scan", "Exscan": "exscan"}
 # Those with a count for each member stand with no bytes, so only root and kind are there.
 UNEVEN = {"Gatherv": "gather", "Scatterv": "scatter", "Alltoallv": "alltoall", "Alltoallw": "alltoall"}
 # Calls that make something of all members wait for all of them; what other calls do, MPI leaves open, so no wait stands for it.
 WAITED = {"Comm_dup", "Comm_dup_with_info", "Comm_split", "Comm_split_type", "Comm_create", "Comm_create_group", "Cart_create", "Cart_sub", "Graph_create", "Dist_graph_create",
           "Dist_graph_create_adjacent", "Intercomm_create", "Win_create", "Win_allocate", "Win_allocate_shared", "Win_create_dynamic", "Win_free", "File_open"}
-OPERATIONS = {"MPI_" + word.upper(): word for word in "max min sum prod land lor lxor band bor bxor maxloc minloc".split()}
 
 # A call in the words of the profile: COUNTS has one for each member of an allgatherv, none of a barrier; EXACT says whether values may
 # stand; WAITS whether a blocking call waits there.

@@ -13,7 +13,8 @@ import itertools
 from array import array
 
 from agreement import call_name, call_words, is_empty
-from job_text import KINDS, UNEVEN, WAITED
+from job_text import UNEVEN, WAITED
+from job_words import KINDS
 from records import rank_words
 from text_places import NOT_JUDGED
 

@@ -1,6 +1,7 @@
 #define _GNU_SOURCE
 #include "types.h"
 
+#include "job_words.h"
 #include "log.h"
 
 #include <dlfcn.h>
@@ -232,14 +233,12 @@ static struct operation {
 } *operations;
 static int operation_numbers, made_operations;
 
+#define NAMED(word, op) {op, #op},
 static const char *operation_name(MPI_Op op) {
     const struct {
         MPI_Op op;
         const char *name;
-    } names[] = {{MPI_MAX, "MPI_MAX"},   {MPI_MIN, "MPI_MIN"},   {MPI_SUM, "MPI_SUM"},       {MPI_PROD, "MPI_PROD"},
-                 {MPI_LAND, "MPI_LAND"}, {MPI_LOR, "MPI_LOR"},   {MPI_LXOR, "MPI_LXOR"},     {MPI_BAND, "MPI_BAND"},
-                 {MPI_BOR, "MPI_BOR"},   {MPI_BXOR, "MPI_BXOR"}, {MPI_MAXLOC, "MPI_MAXLOC"}, {MPI_MINLOC, "MPI_MINLOC"},
-                 {MPI_REPLACE, "MPI_REPLACE"}, {MPI_NO_OP, "MPI_NO_OP"}};
+    } names[] = {EACH_MPI_OPERATION(NAMED){MPI_REPLACE, "MPI_REPLACE"}, {MPI_NO_OP, "MPI_NO_OP"}};
     for (size_t place = 0; place < sizeof names / sizeof *names; place++)
         if (op == names[place].op)
             return names[place].name;

@@ -3,6 +3,8 @@
    named; with --compare it has what differs from them. What a text may say is in docs/JOB_TEXT.md; colljob-mpi trusts that it has no fault,
    and stops at what it can't carry out. */
 #define _POSIX_C_SOURCE 200809L
+#include "../record/job_words.h"
+
 #include <ctype.h>
 #include <errno.h>
 #include <mpi.h>
@@ -42,17 +44,14 @@ struct text {
     struct line *lines;
 };
 
-enum kind { BARRIER, BCAST, GATHER, SCATTER, ALLGATHER, ALLGATHERV, ALLTOALL, REDUCE, ALLREDUCE, RSBLOCK, SCAN, EXSCAN, KINDS };
+#define CONSTANT(constant, word, root, op) constant,
+enum kind { EACH_KIND(CONSTANT) KINDS };
 
+#define KIND(constant, word, root, op) [constant] = {word, root, op},
 static const struct {
     const char *word;
     bool root, op;
-} kinds[KINDS] = {
-    [BARRIER] = {"barrier", false, false}, [BCAST] = {"bcast", true, false},       [GATHER] = {"gather", true, false},
-    [SCATTER] = {"scatter", true, false},  [ALLGATHER] = {"allgather", false, false}, [ALLGATHERV] = {"allgatherv", false, false},
-    [ALLTOALL] = {"alltoall", false, false}, [REDUCE] = {"reduce", true, true},     [ALLREDUCE] = {"allreduce", false, true},
-    [RSBLOCK] = {"rsblock", false, true},  [SCAN] = {"scan", false, true},        [EXSCAN] = {"exscan", false, true},
-};
+} kinds[KINDS] = {EACH_KIND(KIND)};
 
 struct type {
     const char *word;
@@ -224,23 +223,21 @@ static void free_text(struct text *text) {
 
 /* Signatures */
 
+#define TYPE(word, type, width, has_sign) {word, type, width, has_sign},
 static const struct type *find_type(const char *word) {
-    static const struct type types[] = {{"i8", MPI_INT8_T, 1, true},     {"i16", MPI_INT16_T, 2, true},   {"i32", MPI_INT32_T, 4, true},
-                                        {"i64", MPI_INT64_T, 8, true},   {"u8", MPI_UINT8_T, 1, false},   {"u16", MPI_UINT16_T, 2, false},
-                                        {"u32", MPI_UINT32_T, 4, false}, {"u64", MPI_UINT64_T, 8, false}, {"byte", MPI_BYTE, 1, false},
-                                        {"2int", MPI_2INT, 8, true}};
+    static const struct type types[] = {EACH_TYPE(TYPE)};
     for (size_t place = 0; place < sizeof types / sizeof *types; place++)
         if (!strcmp(word, types[place].word))
             return &types[place];
     return NULL;
 }
 
+#define OPERATION(word, op) {word, op},
 static MPI_Op find_op(const char *word) {
     const struct {
         const char *word;
         MPI_Op op;
-    } ops[] = {{"max", MPI_MAX},   {"min", MPI_MIN},   {"sum", MPI_SUM}, {"prod", MPI_PROD}, {"land", MPI_LAND},     {"lor", MPI_LOR},
-               {"lxor", MPI_LXOR}, {"band", MPI_BAND}, {"bor", MPI_BOR}, {"bxor", MPI_BXOR}, {"maxloc", MPI_MAXLOC}, {"minloc", MPI_MINLOC}};
+    } ops[] = {EACH_MPI_OPERATION(OPERATION)};
     for (size_t place = 0; place < sizeof ops / sizeof *ops; place++)
         if (!strcmp(word, ops[place].word))
             return ops[place].op;
@@ -317,7 +314,7 @@ static int elements_given(const struct request *it) {
     case BCAST: return root ? it->count : 0;
     case SCATTER: return root ? it->count * it->size : 0;
     case ALLTOALL:
-    case RSBLOCK: return it->count * it->size;
+    case REDUCE_SCATTER_BLOCK: return it->count * it->size;
     default: return it->count;
     }
 }
@@ -412,7 +409,7 @@ static int post(struct request *it) {
     case ALLTOALL: return MPI_Ialltoall(MOVED, it->comm, &it->handle);
     case REDUCE: return MPI_Ireduce(COMBINED, it->root, it->comm, &it->handle);
     case ALLREDUCE: return MPI_Iallreduce(COMBINED, it->comm, &it->handle);
-    case RSBLOCK: return MPI_Ireduce_scatter_block(COMBINED, it->comm, &it->handle);
+    case REDUCE_SCATTER_BLOCK: return MPI_Ireduce_scatter_block(COMBINED, it->comm, &it->handle);
     case SCAN: return MPI_Iscan(COMBINED, it->comm, &it->handle);
     case EXSCAN: return MPI_Iexscan(COMBINED, it->comm, &it->handle);
     default: return MPI_ERR_ARG;
@@ -431,7 +428,7 @@ static int initialise(struct request *it) {
     case ALLTOALL: return INIT(Alltoall)(MOVED, it->comm, info, &it->handle);
     case REDUCE: return INIT(Reduce)(COMBINED, it->root, it->comm, info, &it->handle);
     case ALLREDUCE: return INIT(Allreduce)(COMBINED, it->comm, info, &it->handle);
-    case RSBLOCK: return INIT(Reduce_scatter_block)(COMBINED, it->comm, info, &it->handle);
+    case REDUCE_SCATTER_BLOCK: return INIT(Reduce_scatter_block)(COMBINED, it->comm, info, &it->handle);
     case SCAN: return INIT(Scan)(COMBINED, it->comm, info, &it->handle);
     case EXSCAN: return INIT(Exscan)(COMBINED, it->comm, info, &it->handle);
     default: return MPI_ERR_ARG;

@@ -13,15 +13,11 @@ import os
 import random
 import sys
 
-KINDS = ["barrier", "bcast", "gather", "scatter", "allgather", "alltoall", "reduce", "allreduce", "rsblock", "scan", "exscan"]
-ROOTED = {"bcast", "gather", "scatter", "reduce"}
-COMBINING = {"reduce", "allreduce", "rsblock", "scan", "exscan"}
-INTEGERS = {"i8": (-128, 127), "i16": (-32768, 32767), "i32": (-(1 << 31), (1 << 31) - 1), "i64": (-(1 << 63), (1 << 63) - 1)}
-INTEGERS.update({"u8": (0, 255), "u16": (0, 65535), "u32": (0, (1 << 32) - 1), "u64": (0, (1 << 64) - 1)})
-OPERATIONS = ["max", "min", "sum", "prod", "land", "lor", "lxor", "band", "bor", "bxor", "lastnz"]
+sys.path.insert(0, os.path.join(os.path.dirname(os.path.realpath(__file__)), "..", "..", "recorder", "record"))
 
-# The types on which few operations are allowed.
-NARROW = {"byte": ["band", "bor", "bxor"], "2int": ["maxloc", "minloc"]}
+import job_words  # noqa: E402
+
+KINDS = [kind for kind in job_words.GIVEN if kind != "allgatherv"]
 COUNTS = [0, 1, 1, 2, 3, 5, 8, 17, 40]
 
 
@@ -31,11 +27,11 @@ class Collective:
     def __init__(self, draw, communicator, members, persistent, extras):
         self.communicator, self.members, self.persistent = communicator, members, persistent
         self.kind = draw.choice([*KINDS, *(["allgatherv"] if "counts" in extras else [])])
-        self.root = draw.randrange(len(members)) if self.kind in ROOTED else None
-        self.type = draw.choice([*INTEGERS, "byte", *(["2int"] if "pairs" in extras else [])])
+        self.root = draw.randrange(len(members)) if self.kind in job_words.ROOTED else None
+        self.type = draw.choice([*job_words.INTEGERS, "byte", *(["2int"] if "pairs" in extras else [])])
         self.operation = None
-        if self.kind in COMBINING:
-            self.operation = draw.choice(NARROW.get(self.type, OPERATIONS))
+        if self.kind in job_words.COMBINING:
+            self.operation = draw.choice(job_words.OPERATIONS_ON[self.type])
         self.count = draw.choice(COUNTS)
         self.counts = [draw.choice(COUNTS) for _ in members] if self.kind == "allgatherv" else None
         self.numbers = {}
@@ -61,7 +57,7 @@ class Collective:
     def value(self, draw):
         if self.type == "2int":
             return f"{draw.randint(-3, 3)},{draw.randint(0, 9)}"
-        least, most = INTEGERS.get(self.type, (0, 255))
+        least, most = job_words.INTEGERS.get(self.type, (0, 255))
         return draw.choice([0, 1, least, most, draw.randint(least, most), draw.randint(max(least, -3), min(most, 9))])
 
 

@@ -16,18 +16,14 @@ import subprocess
 import sys
 import time
 
+sys.path.insert(0, os.path.join(os.path.dirname(os.path.realpath(__file__)), "..", "..", "recorder", "record"))
+
+import job_words  # noqa: E402
+
 PROGRAM = os.path.join(os.path.dirname(__file__), "..", "..", "crates", "colljob", "out", "colljob")
 RANKS = 16
 COLLECTIVES = 500
-OPERATIONS = ["max", "min", "sum", "prod", "land", "lor", "lxor", "band", "bor", "bxor", "lastnz"]
-# those of pairs of a value and an index
-LOCATIONS = ["maxloc", "minloc"]
-TYPES = ["i8", "i16", "i32", "i64", "u8", "u16", "u32", "u64"]
-# how many values each member gives, as a multiple of the count, or each a count of its own; where only the root gives, in ROOTED
-GIVEN = {"barrier": "none", "bcast": "root", "gather": "own", "scatter": "root all", "allgather": "own", "allgatherv": "counted",
-         "alltoall": "all", "reduce": "own", "allreduce": "own", "rsblock": "all", "scan": "own", "exscan": "own"}
-ROOTED = ["bcast", "gather", "scatter", "reduce"]
-REDUCING = ["reduce", "allreduce", "rsblock", "scan", "exscan"]
+TYPES = [word for word in job_words.OPERATIONS_ON if word != "byte"]
 SECONDS = 120
 
 
@@ -36,26 +32,24 @@ class Collective:
 
     def __init__(self, dice, comm, members):
         self.comm, self.members = comm, members
-        self.kind = dice.choice(list(GIVEN))
+        self.kind = dice.choice(list(job_words.GIVEN))
         self.starts = dice.randint(1, 3) if dice.random() < 0.2 else 0
         self.root = dice.randrange(len(members))
         self.count = dice.randint(0, 4)
         words = [self.kind]
-        if self.kind in ROOTED:
+        if self.kind in job_words.ROOTED:
             words.append(str(self.root))
-        if self.kind in REDUCING:
-            words.append(dice.choice(OPERATIONS + LOCATIONS))
-            self.type = "2int" if words[-1] in LOCATIONS else dice.choice(TYPES)
-        else:
-            self.type = dice.choice(TYPES + ["2int"])
+        self.type = dice.choice(TYPES)
+        if self.kind in job_words.COMBINING:
+            words.append(dice.choice(job_words.OPERATIONS_ON[self.type]))
         self.counts = [dice.randint(0, 4) for _ in members]
         if self.kind != "barrier":
-            words += [self.type, *map(str, self.counts if GIVEN[self.kind] == "counted" else [self.count])]
+            words += [self.type, *map(str, self.counts if job_words.GIVEN[self.kind] == "counted" else [self.count])]
         self.words = " ".join(words)
 
     def given(self, dice, rank):
         """What the rank gives at a start."""
-        rule = GIVEN[self.kind]
+        rule = job_words.GIVEN[self.kind]
         n = 0 if rule == "none" else self.count
         if rule == "counted":
             n = self.counts[self.members.index(rank)]

@@ -4,8 +4,10 @@
 /* ---- lengths, by the table of kinds in worzsunab.h */
 
 size_t wz_type_bytes(uint8_t type) {
+    /* tools/words: widths */
     static const uint8_t bytes[] = { 1, 2, 4, 8, 1, 2, 4, 8, 1, 8 };
-    return type <= WZ_2INT ? bytes[type] : 0;
+    /* tools/words: end of widths */
+    return type < WZ_TYPES ? bytes[type] : 0;
 }
 
 /* The rank's member number, or the communicator's size where it isn't a member. */

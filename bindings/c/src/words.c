@@ -57,22 +57,24 @@ const char *wz_name(int32_t code) {
     return code >= 0 && code <= WZ_NO_PLACE ? names[code] : "Unknown";
 }
 
+/* tools/words: words */
 const char *wz_kind_word(uint8_t kind) {
-    static const char *const words[] = { "barrier", "bcast",     "gather",  "scatter", "allgather", "alltoall",
-                                         "reduce",  "allreduce", "rsblock", "scan",    "exscan",    "allgatherv" };
-    return kind <= WZ_ALLGATHERV ? words[kind] : "?";
+    static const char *const words[] = { "barrier", "bcast", "gather", "scatter", "allgather", "alltoall", "reduce",
+                                         "allreduce", "rsblock", "scan", "exscan", "allgatherv" };
+    return kind < WZ_KINDS ? words[kind] : "?";
 }
 
 const char *wz_operation_word(uint8_t op) {
-    static const char *const words[] = { "no operation", "max",  "min", "sum",  "prod",   "land",   "lor",
-                                         "lxor",         "band", "bor", "bxor", "lastnz", "maxloc", "minloc" };
-    return op <= WZ_MINLOC ? words[op] : "?";
+    static const char *const words[] = { "no operation", "max", "min", "sum", "prod", "land", "lor", "lxor", "band",
+                                         "bor", "bxor", "lastnz", "maxloc", "minloc" };
+    return op < WZ_OPERATIONS ? words[op] : "?";
 }
 
 const char *wz_type_word(uint8_t type) {
     static const char *const words[] = { "i8", "i16", "i32", "i64", "u8", "u16", "u32", "u64", "byte", "2int" };
-    return type <= WZ_2INT ? words[type] : "?";
+    return type < WZ_TYPES ? words[type] : "?";
 }
+/* tools/words: end of words */
 
 bool wz_has_operation(uint8_t kind) { return kind >= WZ_REDUCE && kind <= WZ_EXSCAN; }
 

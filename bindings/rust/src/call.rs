@@ -2,6 +2,7 @@ use std::fmt;
 
 use crate::raw::RawCall;
 
+// tools/words: kinds
 /// A collective (MPI 4.1, 6.12).
 #[derive(Clone, Copy, Debug, PartialEq, Eq, Hash)]
 #[repr(u8)]
@@ -49,7 +50,9 @@ impl Kind {
         (Kind::Allgatherv, "allgatherv"),
     ];
 }
+// tools/words: end of kinds
 
+// tools/words: operations
 /// An operation (MPI 4.1, 6.9.2 and 6.9.4).
 #[derive(Clone, Copy, Debug, PartialEq, Eq, Hash)]
 #[repr(u8)]
@@ -74,7 +77,7 @@ pub enum Op {
     Bor,
     /// `MPI_BXOR`
     Bxor,
-    /// The second element where it isn't 0, else the first: like an operation of a user, not commutative.
+    /// The second element where it isn't 0, else the first; not commutative, as a user's may be
     LastNz,
     /// `MPI_MAXLOC`
     MaxLoc,
@@ -99,13 +102,17 @@ impl Op {
         (Op::MaxLoc, "maxloc"),
         (Op::MinLoc, "minloc"),
     ];
+}
+// tools/words: end of operations
 
+impl Op {
     /// The operation that a number names, with its word.
     fn named(number: u8) -> Option<(Op, &'static str)> {
         Op::ALL.get(usize::from(number).checked_sub(1)?).copied()
     }
 }
 
+// tools/words: types
 /// The type of an element; numbers are little-endian.
 #[derive(Clone, Copy, Debug, PartialEq, Eq, Hash)]
 #[repr(u8)]
@@ -126,9 +133,9 @@ pub enum Type {
     U32,
     /// `MPI_UINT64_T`
     U64,
-    /// `MPI_BYTE`
+    /// `MPI_BYTE`, for the operations on bits alone
     Byte,
-    /// `MPI_2INT`: a value and its index, each an `i32`
+    /// `MPI_2INT`, a value and its index, each an int32_t; for maxloc and minloc alone
     Pair,
 }
 
@@ -147,6 +154,7 @@ impl Type {
         (Type::Pair, "2int"),
     ];
 }
+// tools/words: end of types
 
 const NO_OPERATION: u8 = 0;
 
