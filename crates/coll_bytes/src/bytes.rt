@@ -369,31 +369,35 @@ impl Bytes {
         }
     }
 
-    /// Returns the bytes as a vector. It is the block's own vector if nobody else owns the block
-    /// and the bytes are its front, else a copy in `room`. Takes no memory.
+    /// Returns the bytes as a vector. It is the block's own vector if nobody else owns the block,
+    /// else a copy in `room`. Takes no memory.
     pub fn into_vec(self, room: Vec<u8>) -> Vec<u8>
         requires empty { room.items ≡ [] }
         requires none { vec_len room ≡ 0 }
         requires room { length self ≤ vec_capacity room }
         ensures { result.items ≡ self }
     {
-        match self.into_front() {
+        match self.try_into_vec() {
             Ok(front) => front,
             Err(bytes) => copied(bytes.as_slice(), room),
         }
     }
 
-    // Returns the block's vector if nobody else owns the block and the bytes are its front, else
-    // the bytes.
-    fn into_front(self) -> Result<Vec<u8>, Bytes>
+    /// Returns the bytes in their block's own vector. Bytes that don't begin the block are moved to
+    /// its beginning. Takes no memory.
+    ///
+    /// # Errors
+    ///
+    /// The bytes, if others own the block too, or if the bytes lie in place.
+    pub fn try_into_vec(self) -> Result<Vec<u8>, Bytes>
         ensures ok { IfOk result (λ front. front.items ≡ self) }
         ensures err { IfErr result (λ bytes. bytes ≡ self) }
     {
         let Bytes { memory } = self;
         match memory {
-            Memory::Owned { block, place } => front_of(block, place),
+            Memory::Owned { block, place } => Ok(front_of(block, place)),
             Memory::Shared { block, place } => match Arc::try_unwrap(block) {
-                Ok(block) => front_of(block, place),
+                Ok(block) => Ok(front_of(block, place)),
                 Err(block) => Err(shared(block, place)),
             },
             memory => Err(Bytes { memory }),
@@ -401,19 +405,17 @@ impl Bytes {
     }
 }
 
-// Cuts a block to a region that is its front. Returns the region's bytes if it isn't the front.
-fn front_of(block: Vec<u8>, place: Region) -> Result<Vec<u8>, Bytes>
-    requires inside { Inside (length block.items) place }
-    requires fits { place.at + place.len < 2 ^ 32 }
-    ensures ok { IfOk result (λ front. front.items ≡ read_of block.items place) }
-    ensures err { IfErr result (λ bytes. bytes ≡ read_of block.items place) }
+// Moves a region of a block to the block's beginning, and cuts the rest.
+fn front_of(block: Vec<u8>, place: Region) -> Vec<u8>
+    requires { Inside (length block.items) place }
+    ensures { result.items ≡ read_of block.items place }
 {
-    if place.at > 0 {
-        return Err(owned(block, place));
-    }
     let mut front = block;
+    if place.at > 0 {
+        place.copy(Region::front(place.len), &mut front);
+    }
     front.truncate(place.len as usize);
-    Ok(front)
+    front
 }
 
 impl Default for Bytes {
