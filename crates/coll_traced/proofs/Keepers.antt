@@ -16,7 +16,7 @@ use Rattle.coll_machine.specs.Calls as calls
 use Rattle.coll_machine.specs.Traces.{reserved_for}
 use Rattle.coll_machine.specs.Laws.{HasRoom, Reserves}
 use Rattle.coll_machine.proofs.Rooms.{legal_goes_on, reserved_changes}
-use Rattle.coll_core.proofs.Groups.{are_groups}
+use Rattle.coll_core.proofs.opening.Groups.{are_groups}
 use Rattle.coll_core.specs.Configs.{idle, setting_by, IsConfig}
 use Rattle.coll_core.specs.declared.config.Config.{Config}
 use Rattle.coll_core.specs.declared.outcome.Outcome.{Outcome}

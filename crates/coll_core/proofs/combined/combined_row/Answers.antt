@@ -1,7 +1,7 @@
 use Rattle.std.proofs.Common.{◌≡◌, ◌≤◌, ◌+◌, ◌%◌, length, ap, ◌∙◌, arith}
 use Rattle.coll_kinds.specs.Elements.{width}
 use Rattle.coll_ops.proofs.RowLists.{length-combined}
-use Rattle.coll_core.proofs.CombinedRows.{block-whole, front-more, front-whole, rows-whole}
+use Rattle.coll_core.proofs.commit.CombinedRows.{block-whole, front-more, front-whole, rows-whole}
 use Rattle.coll_core.proofs.combined.combined_row.Goals as goal
 
 pub loop-done-preserved : goal.loop-done-preserved

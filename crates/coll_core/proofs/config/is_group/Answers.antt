@@ -3,7 +3,7 @@ use Rattle.std.proofs.lemmas.Bool.{false≢true}
 use Rattle.std.proofs.lemmas.Bool.Decides.{nat_tests}
 use Rattle.std.specs.Option.{option_eq}
 use Rattle.coll_kinds.specs.Groups.{member_of}
-use Rattle.coll_core.proofs.Below.{below_suc}
+use Rattle.coll_core.proofs.values.Below.{below_suc}
 use Rattle.coll_core.proofs.config.is_group.Goals as goal
 
 same_number : (y k : ℕ) → false ≡ not (eqb y k) → y ≡ k

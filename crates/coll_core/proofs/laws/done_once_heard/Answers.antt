@@ -1,5 +1,5 @@
 use Rattle.coll_core.specs.Cores.{tables}
-use Rattle.coll_refinement.proofs.Finished.{quiet_has_heard, done_has_heard}
+use Rattle.coll_refinement.proofs.tables.Finished.{quiet_has_heard, done_has_heard}
 use Rattle.coll_core.proofs.laws.done_once_heard.Goals as goal
 
 pub returns : goal.returns

@@ -1,4 +1,4 @@
-use Rattle.coll_refinement.proofs.Whole.{lock_is_free}
+use Rattle.coll_refinement.proofs.tables.WholeCalls.{lock_is_free}
 use Rattle.coll_core.specs.Cores.{tables}
 use Rattle.coll_core.proofs.laws.lock_is_free.Goals as goal
 

@@ -1,5 +1,5 @@
 use Rattle.coll_core.specs.Cores.{tables}
-use Rattle.coll_refinement.proofs.Finished.{quiet_is_finished as finished}
+use Rattle.coll_refinement.proofs.tables.Finished.{quiet_is_finished as finished}
 use Rattle.coll_core.proofs.laws.quiet_is_finished.Goals as goal
 
 pub returns : goal.returns

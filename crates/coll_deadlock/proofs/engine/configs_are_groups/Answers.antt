@@ -1,4 +1,4 @@
-use Rattle.coll_core.proofs.Groups.{are_groups}
+use Rattle.coll_core.proofs.opening.Groups.{are_groups}
 use Rattle.coll_deadlock.proofs.engine.configs_are_groups.Goals as goal
 
 pub returns : goal.returns

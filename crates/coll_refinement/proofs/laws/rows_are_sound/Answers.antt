@@ -1,4 +1,4 @@
-use Rattle.coll_refinement.proofs.Rows.{rows_are_sound}
+use Rattle.coll_refinement.proofs.rows.Posts.{rows_are_sound}
 use Rattle.coll_refinement.proofs.laws.rows_are_sound.Goals as goal
 
 pub returns : goal.returns

@@ -1,6 +1,6 @@
 use Rattle.std.proofs.Common.{ap, ◌∙◌}
 use Rattle.coll_core.specs.Communicators.{groups_seen}
-use Rattle.coll_core.proofs.Groups.{few_of}
+use Rattle.coll_core.proofs.opening.Groups.{few_of}
 use Rattle.coll_core.proofs.communicators.Communicators.of.Goals as goal
 
 pub invariant_of-result : goal.invariant_of-result

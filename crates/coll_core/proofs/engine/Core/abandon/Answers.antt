@@ -1,5 +1,5 @@
 use Rattle.std.proofs.Common.{refl}
-use Rattle.coll_core.proofs.Abandoning.{returned}
+use Rattle.coll_core.proofs.commit.Abandon.{returned}
 use Rattle.coll_core.proofs.engine.Core.abandon.Goals as goal
 
 pub invariant_of-self : goal.invariant_of-self

@@ -1,6 +1,6 @@
 use Rattle.std.proofs.Common.{subst}
 use Rattle.coll_core.specs.BetweenCalls.{BetweenCalls}
-use Rattle.coll_core.proofs.Between.{between_calls}
+use Rattle.coll_core.proofs.between.Conditions.{between_calls}
 use Rattle.coll_core.proofs.engine.Core.check_between.Goals as goal
 
 pub returns : goal.returns

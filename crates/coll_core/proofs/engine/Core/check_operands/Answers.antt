@@ -3,7 +3,7 @@ use Rattle.coll_core.specs.Cores.{Parts}
 use Rattle.coll_core.specs.LockSteps.{OfLockStep}
 use Rattle.coll_core.specs.Steps.{IsOut}
 use Rattle.coll_core.specs.Works.{Piece}
-use Rattle.coll_core.proofs.LockSteps.{of_lock_step}
+use Rattle.coll_core.proofs.between.LockStep.{of_lock_step}
 use Rattle.coll_core.proofs.engine.Core.check_operands.Goals as goal
 
 pub returns : goal.returns

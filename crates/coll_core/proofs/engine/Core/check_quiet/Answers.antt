@@ -1,6 +1,6 @@
 use Rattle.std.proofs.Common.{subst}
 use Rattle.coll_refinement.specs.FreeLocks.{NothingGoes}
-use Rattle.coll_refinement.proofs.EngineReads.{quiet_core}
+use Rattle.coll_refinement.proofs.engine.Reads.{quiet_core}
 use Rattle.coll_core.specs.Cores.{tables}
 use Rattle.coll_core.specs.Phases.{IsQuiet}
 use Rattle.coll_core.specs.Requests.{shown}

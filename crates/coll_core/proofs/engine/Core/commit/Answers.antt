@@ -1,8 +1,8 @@
 use Rattle.std.proofs.Common.{◌∙◌, ap, refl}
 use Rattle.coll_core.specs.Works.{Piece}
-use Rattle.coll_core.proofs.Acting.{parts}
-use Rattle.coll_core.proofs.Committing.{commit_can_go, commits_own, committed, own_at, steps_exactly}
-use Rattle.coll_core.proofs.Reading.{running_acting}
+use Rattle.coll_core.proofs.step.Act.{parts}
+use Rattle.coll_core.proofs.commit.Commit.{commit_can_go, commits_own, committed, own_at, steps_exactly}
+use Rattle.coll_core.proofs.between.FirstOfReady.{running_acting}
 use Rattle.coll_core.proofs.engine.Core.commit.Goals as goal
 
 pub write-requires-clause-sized : goal.write-requires-clause-sized

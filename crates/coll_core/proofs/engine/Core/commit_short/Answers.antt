@@ -2,9 +2,9 @@ use Rattle.std.proofs.Common.{◌∙◌, ap, refl, subst}
 use Rattle.coll_core.specs.Cores.{Parts}
 use Rattle.coll_core.specs.Steps.{Commits, IsOut}
 use Rattle.coll_core.specs.Works.{Piece}
-use Rattle.coll_core.proofs.Acting.{parts}
-use Rattle.coll_core.proofs.Committing.{commit_can_go, commit_steps, committed, out_at}
-use Rattle.coll_core.proofs.Reading.{running_acting}
+use Rattle.coll_core.proofs.step.Act.{parts}
+use Rattle.coll_core.proofs.commit.Commit.{commit_can_go, commit_steps, committed, out_at}
+use Rattle.coll_core.proofs.between.FirstOfReady.{running_acting}
 use Rattle.coll_core.proofs.engine.Core.commit_short.Goals as goal
 
 pub write_short-requires-clause-sized : goal.write_short-requires-clause-sized

@@ -1,7 +1,7 @@
 use Rattle.std.proofs.Common.{◌+◌, ◌*◌, refl, arith, ap}
-use Rattle.coll_core.proofs.Standings.{list_in}
-use Rattle.coll_core.proofs.RootRows.{known_outcome}
-use Rattle.coll_core.proofs.Retiring.{completes, gives_up, kept, on_done, owned, retires_alone, seated, waits}
+use Rattle.coll_core.proofs.between.LiveRequests.{list_in}
+use Rattle.coll_core.proofs.retire.RootRow.{known_outcome}
+use Rattle.coll_core.proofs.retire.Retire.{completes, gives_up, kept, on_done, owned, retires_alone, seated, waits}
 use Rattle.coll_match.specs.Instances.{LookUps}
 use Rattle.coll_core.proofs.engine.Core.complete.Goals as goal
 

@@ -4,9 +4,9 @@ use Rattle.coll_arena.specs.Slots.{Slots}
 use Rattle.coll_core.specs.declared.request.Request.{Request}
 use Rattle.coll_core.specs.Cores.{IsCore, Parts}
 use Rattle.coll_core.specs.Steps.{Acts}
-use Rattle.coll_core.proofs.Acting.{can_go_on, parts}
-use Rattle.coll_core.proofs.Doing.{computed, on_err, same_written}
-use Rattle.coll_core.proofs.Reading.{acts_at}
+use Rattle.coll_core.proofs.step.Act.{can_go_on, parts}
+use Rattle.coll_core.proofs.step.Actions.{computed, on_err, same_written}
+use Rattle.coll_core.proofs.between.FirstOfReady.{acts_at}
 use Rattle.coll_core.proofs.engine.Core.compute.Goals as goal
 
 pub act-requires-clause-fits : goal.act-requires-clause-fits

@@ -7,21 +7,21 @@ use Rattle.coll_kinds.specs.declared.signature.Signature.{Signature}
 use Rattle.coll_kinds.specs.Common.{AreBytes, given_len, max_len}
 use Rattle.coll_machine.specs.Common.{Post, Ticketed, StepsTo}
 use Rattle.coll_queues.specs.Refusing.{judge_refusal}
-use Rattle.coll_refinement.proofs.EngineStatements.{MayEnter}
+use Rattle.coll_refinement.proofs.engine.Statements.{MayEnter}
 use Rattle.coll_core.specs.declared.request.Request.{Request}
 use Rattle.coll_plans.specs.Plans.{family}
 use Rattle.coll_arena.specs.Slots.{Slots}
 use Rattle.coll_core.specs.Progress.{BeginsSchedule}
-use Rattle.coll_core.proofs.Acting.{list_low}
+use Rattle.coll_core.proofs.step.Act.{list_low}
 use Rattle.coll_core.specs.Requests.{shown}
 use Rattle.coll_core.specs.Cores.{Parts, seen, setting}
 use Rattle.coll_core.specs.Posts.{planned, refused_in, next_instance}
-use Rattle.coll_core.proofs.Posting.{Calls, accepted_from, emptied, given_now, lent_moved, not_given, parts_of, post_begins, post_kept, post_steps}
+use Rattle.coll_core.proofs.post.Post.{Calls, accepted_from, emptied, given_now, lent_moved, not_given, parts_of, post_begins, post_kept, post_steps}
 use Rattle.coll_match.specs.Instances.{LookUps, joined, look_ups}
 use Rattle.coll_machine.specs.declared.key.Key.{Key}
 use Rattle.coll_refinement.specs.Shown.{Instances}
-use Rattle.coll_refinement.proofs.EngineTested.{entry_core}
-use Rattle.coll_refinement.proofs.EngineReads.{new_core}
+use Rattle.coll_refinement.proofs.engine.Accepted.{entry_core}
+use Rattle.coll_refinement.proofs.engine.Reads.{new_core}
 use Rattle.coll_core.proofs.engine.Core.enter.Goals as goal
 
 short : (len given : ℕ) → len ≡ given → given ≤ max_len → len < 2 ^ 32

@@ -1,4 +1,4 @@
-use Rattle.coll_core.proofs.Starting.{freed_core, frees, frees_alone}
+use Rattle.coll_core.proofs.start.StartAndFree.{freed_core, frees, frees_alone}
 use Rattle.coll_core.proofs.engine.Core.free.Goals as goal
 
 pub invariant_of-self : goal.invariant_of-self

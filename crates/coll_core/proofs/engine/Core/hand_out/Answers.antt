@@ -5,10 +5,10 @@ use Rattle.coll_arena.specs.Slots.{Slots, record_in, weight_of}
 use Rattle.coll_core.specs.declared.request.Request.{Request}
 use Rattle.coll_core.specs.Cores.{IsCore, Parts}
 use Rattle.coll_core.specs.Steps.{HandsOut}
-use Rattle.coll_core.proofs.Acting.{parts}
-use Rattle.coll_core.proofs.Doing.{on_err, same_arena}
-use Rattle.coll_core.proofs.Moving.{first_filled, hands_out}
-use Rattle.coll_core.proofs.Reading.{first_some}
+use Rattle.coll_core.proofs.step.Act.{parts}
+use Rattle.coll_core.proofs.step.Actions.{on_err, same_arena}
+use Rattle.coll_core.proofs.step.Combine.{first_filled, hands_out}
+use Rattle.coll_core.proofs.between.FirstOfReady.{first_some}
 use Rattle.coll_core.proofs.engine.Core.hand_out.Goals as goal
 
 pub work-requires-clause-some : goal.work-requires-clause-some

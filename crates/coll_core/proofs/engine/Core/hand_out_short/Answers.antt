@@ -1,6 +1,6 @@
 use Rattle.std.proofs.Common.{◌∙◌, refl, sym}
 use Rattle.std.proofs.lemmas.Bool.{false≢true}
-use Rattle.coll_core.proofs.Stepping.{first_of, long_first, none_short, short_first}
+use Rattle.coll_core.proofs.step.Step.{first_of, long_first, none_short, short_first}
 use Rattle.coll_core.proofs.engine.Core.hand_out_short.Goals as goal
 
 pub returns-in_default-clause-short : goal.returns-in_default-clause-short

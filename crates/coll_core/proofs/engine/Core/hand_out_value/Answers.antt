@@ -5,10 +5,10 @@ use Rattle.coll_arena.specs.Slots.{Slots, record_in, weight_of}
 use Rattle.coll_core.specs.declared.request.Request.{Request}
 use Rattle.coll_core.specs.Cores.{Parts}
 use Rattle.coll_core.specs.Steps.{HandsOut}
-use Rattle.coll_core.proofs.Acting.{parts}
-use Rattle.coll_core.proofs.Doing.{same_arena}
-use Rattle.coll_core.proofs.Moving.{hands_out}
-use Rattle.coll_core.proofs.Reading.{acts_at}
+use Rattle.coll_core.proofs.step.Act.{parts}
+use Rattle.coll_core.proofs.step.Actions.{same_arena}
+use Rattle.coll_core.proofs.step.Combine.{hands_out}
+use Rattle.coll_core.proofs.between.FirstOfReady.{acts_at}
 use Rattle.coll_core.proofs.engine.Core.hand_out_value.Goals as goal
 
 pub short_work-work-requires-clause-next : goal.short_work-work-requires-clause-next

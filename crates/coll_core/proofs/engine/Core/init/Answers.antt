@@ -1,7 +1,7 @@
 use Rattle.std.proofs.Common.{refl, sym}
 use Rattle.coll_core.specs.Posts.{init_of}
-use Rattle.coll_core.proofs.Posting.{refused_so, short_of, still_accepted}
-use Rattle.coll_core.proofs.Progressing.{keeps_since}
+use Rattle.coll_core.proofs.post.Post.{refused_so, short_of, still_accepted}
+use Rattle.coll_core.proofs.between.NoStep.{keeps_since}
 use Rattle.coll_core.proofs.engine.Core.init.Goals as goal
 
 pub returns-in-Err-clause-refused : goal.returns-in-Err-clause-refused

@@ -1,4 +1,4 @@
-use Rattle.coll_core.proofs.Committing.{out_by, out_filled}
+use Rattle.coll_core.proofs.commit.Commit.{out_by, out_filled}
 use Rattle.coll_core.proofs.engine.Core.is_out.Goals as goal
 
 pub stands_at-requires : goal.stands_at-requires

@@ -1,4 +1,4 @@
-use Rattle.coll_core.proofs.Committing.{out_by, out_filled}
+use Rattle.coll_core.proofs.commit.Commit.{out_by, out_filled}
 use Rattle.coll_core.proofs.engine.Core.is_short_out.Goals as goal
 
 pub stands_at_short-requires : goal.stands_at_short-requires

@@ -7,16 +7,16 @@ use Rattle.coll_kinds.specs.declared.kind.Mode.TheVariants.{Persistent}
 use Rattle.coll_kinds.specs.declared.signature.Signature.{Signature}
 use Rattle.coll_machine.specs.Common.{Init, Ticketed, MachineStep}
 use Rattle.coll_queues.specs.Refusing.{judge_refusal}
-use Rattle.coll_refinement.proofs.EngineChanges.{Initialises}
-use Rattle.coll_refinement.proofs.EngineStatements.{MayEnter}
-use Rattle.coll_refinement.proofs.EngineTested.{entry_core}
+use Rattle.coll_refinement.proofs.engine.Changes.{Initialises}
+use Rattle.coll_refinement.proofs.engine.Statements.{MayEnter}
+use Rattle.coll_refinement.proofs.engine.Accepted.{entry_core}
 use Rattle.coll_core.specs.declared.request.Request.{Request}
 use Rattle.coll_arena.specs.Slots.{Slots}
 use Rattle.coll_core.specs.Progress.{KeepsProgress}
 use Rattle.coll_core.specs.Requests.{shown}
 use Rattle.coll_core.specs.Cores.{Parts, seen, setting}
 use Rattle.coll_core.specs.Posts.{planned, refused_in}
-use Rattle.coll_core.proofs.Posting.{accepted_from, emptied, init_kept, init_progress, init_steps, initialised_as, offered_as, one_slot, parts_of}
+use Rattle.coll_core.proofs.post.Post.{accepted_from, emptied, init_kept, init_progress, init_steps, initialised_as, offered_as, one_slot, parts_of}
 use Rattle.coll_core.proofs.engine.Core.lay_down.Goals as goal
 
 pub offer-place-requires-clause-judged : goal.offer-place-requires-clause-judged

@@ -2,7 +2,7 @@ use Rattle.std.proofs.Common.{◌∙◌, ap}
 use Rattle.coll_machine.specs.Lents.{lent_bytes}
 use Rattle.coll_core.specs.Requests.{shown}
 use Rattle.coll_core.specs.Cores.{seen, setting}
-use Rattle.coll_refinement.proofs.EngineReads.{lent_core}
+use Rattle.coll_refinement.proofs.engine.Reads.{lent_core}
 use Rattle.coll_core.proofs.engine.Core.lent.Goals as goal
 
 pub returns : goal.returns

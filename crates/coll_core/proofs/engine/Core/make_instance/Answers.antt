@@ -1,8 +1,8 @@
 use Rattle.std.proofs.Common.{◌≡◌, ◌∙◌, ap, sym, subst}
 use Rattle.coll_machine.specs.Settings.{size}
-use Rattle.coll_refinement.proofs.EngineChanges.{HasMade}
+use Rattle.coll_refinement.proofs.engine.Changes.{HasMade}
 use Rattle.coll_core.specs.Cores.{Parts, setting}
-use Rattle.coll_core.proofs.Rooming.{made_by, room_kept, room_unchanged, unchanged_from, roomy}
+use Rattle.coll_core.proofs.post.Room.{made_by, room_kept, room_unchanged, unchanged_from, roomy}
 use Rattle.coll_core.proofs.engine.Core.make_instance.Goals as goal
 
 pub invariant_of-self : goal.invariant_of-self

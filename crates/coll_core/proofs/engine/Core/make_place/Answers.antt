@@ -1,7 +1,7 @@
 use Rattle.std.proofs.Common.{inl, refl}
 use Rattle.coll_machine.specs.declared.key.Key.{Key}
 use Rattle.coll_core.specs.Cores.{Parts}
-use Rattle.coll_core.proofs.Rooming.{room_kept, room_unchanged, unchanged_from}
+use Rattle.coll_core.proofs.post.Room.{room_kept, room_unchanged, unchanged_from}
 use Rattle.coll_core.proofs.engine.Core.make_place.Goals as goal
 
 abbrev some_key : Key

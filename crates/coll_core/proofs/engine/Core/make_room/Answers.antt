@@ -4,14 +4,14 @@ use Rattle.coll_kinds.specs.Lengths.{given_len}
 use Rattle.coll_machine.specs.Common.{Post, Setting, size}
 use Rattle.coll_match.specs.Instances as instances
 use Rattle.coll_queues.specs.Postings.{Postings, HasRoom, place_of}
-use Rattle.coll_refinement.proofs.EngineStatements.{MayEnter}
-use Rattle.coll_refinement.proofs.EngineTested.{entry_core}
+use Rattle.coll_refinement.proofs.engine.Statements.{MayEnter}
+use Rattle.coll_refinement.proofs.engine.Accepted.{entry_core}
 use Rattle.coll_core.specs.Requests.{shown}
 use Rattle.coll_core.specs.Cores.{Parts, setting}
 use Rattle.coll_core.specs.declared.offer.Offer.{Offer}
 use Rattle.coll_core.specs.Posts.{planned, refused_in, IsLaid}
 use Rattle.coll_kinds.specs.declared.refusal.Refusal.{Refusal}
-use Rattle.coll_core.proofs.Posting.{accepted_from}
+use Rattle.coll_core.proofs.post.Post.{accepted_from}
 use Rattle.coll_core.proofs.engine.Core.make_room.Goals as goal
 
 laid_for : (r : Result (List ℕ) Refusal) (offer : Offer) (buffer : List ℕ) → IfOk r (λ b. IsLaid offer b) → r ≡ Ok buffer → IsLaid offer buffer

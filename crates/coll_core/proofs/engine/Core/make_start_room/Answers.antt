@@ -6,7 +6,7 @@ use Rattle.coll_arena.specs.Slots.{record_in}
 use Rattle.coll_match.specs.Instances.{size as room_of}
 use Rattle.coll_core.specs.Cores.{Parts, setting}
 use Rattle.coll_core.specs.Starts.{next_instance}
-use Rattle.coll_core.proofs.StartRooms.{has_room, size_is, takes_in}
+use Rattle.coll_core.proofs.start.Room.{has_room, size_is, takes_in}
 use Rattle.coll_core.proofs.engine.Core.make_start_room.Goals as goal
 
 pub lay_in-requires : goal.lay_in-requires

@@ -4,8 +4,8 @@ use Rattle.std.proofs.lemmas.Grind.{common_steps}
 use Rattle.coll_queues.specs.Postings.{Postings}
 use Rattle.coll_core.specs.Posts.{planned}
 use Rattle.coll_kinds.specs.Checks.{broken}
-use Rattle.coll_core.proofs.Fitting.{unbroken}
-use Rattle.coll_core.proofs.Entering.{IsMember, entry_misfits, entry_fits, judge_moved}
+use Rattle.coll_core.proofs.post.FirstRefusal.{unbroken}
+use Rattle.coll_core.proofs.post.Tests.{IsMember, entry_misfits, entry_fits, judge_moved}
 use Rattle.coll_core.proofs.engine.Core.may_enter.Goals as goal
 
 pub returns-in_err-fits : goal.returns-in_err-fits

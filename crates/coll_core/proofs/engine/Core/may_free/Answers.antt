@@ -1,6 +1,6 @@
 use Rattle.std.proofs.Common.{ap, sym, subst, arith}
 use Rattle.coll_core.specs.Cores.{IsCore}
-use Rattle.coll_core.proofs.Standings.{list_in}
+use Rattle.coll_core.proofs.between.LiveRequests.{list_in}
 use Rattle.coll_core.proofs.engine.Core.may_free.Goals as goal
 
 pub is_on-requires : goal.is_on-requires

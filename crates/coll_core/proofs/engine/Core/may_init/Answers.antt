@@ -3,9 +3,9 @@ use Rattle.std.specs.Result.{result_err}
 use Rattle.std.proofs.lemmas.Grind.{common_steps}
 use Rattle.coll_kinds.specs.declared.kind.Mode.TheVariants.{Persistent}
 use Rattle.coll_refinement.specs.Engines.{entry_refusals}
-use Rattle.coll_refinement.proofs.EngineStatements.{full_refusal}
+use Rattle.coll_refinement.proofs.engine.Statements.{full_refusal}
 use Rattle.coll_core.specs.Posts.{planned}
-use Rattle.coll_core.proofs.Entering.{init_tested, stops_at_entry, enters, at_free}
+use Rattle.coll_core.proofs.post.Tests.{init_tested, stops_at_entry, enters, at_free}
 use Rattle.coll_core.proofs.engine.Core.may_init.Goals as goal
 
 pub returns-in_err-may_enter : goal.returns-in_err-may_enter

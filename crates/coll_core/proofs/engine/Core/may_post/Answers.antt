@@ -4,9 +4,9 @@ use Rattle.std.proofs.lemmas.Grind.{common_steps}
 use Rattle.coll_kinds.specs.declared.kind.Mode.TheVariants.{Once}
 use Rattle.coll_machine.specs.Refusals.{wrong_length}
 use Rattle.coll_refinement.specs.Engines.{entry_refusals}
-use Rattle.coll_refinement.proofs.EngineStatements.{full_refusal}
+use Rattle.coll_refinement.proofs.engine.Statements.{full_refusal}
 use Rattle.coll_core.specs.Posts.{planned}
-use Rattle.coll_core.proofs.Entering.{post_tested, stops_at_entry, enters, misses, right_length, at_free}
+use Rattle.coll_core.proofs.post.Tests.{post_tested, stops_at_entry, enters, misses, right_length, at_free}
 use Rattle.coll_core.proofs.engine.Core.may_post.Goals as goal
 
 pub returns-in_err-may_enter-clause-refused : goal.returns-in_err-may_enter-clause-refused

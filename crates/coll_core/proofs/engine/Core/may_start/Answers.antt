@@ -2,7 +2,7 @@ use Rattle.std.proofs.Common.{◌≤◌, ◌<◌, ◌∙◌, ap, sym, subst}
 use Rattle.coll_kinds.specs.Lengths.{given_len}
 use Rattle.coll_arena.specs.Slots.{record_in}
 use Rattle.coll_core.specs.Cores.{IsCore}
-use Rattle.coll_core.proofs.Starting.{bad_length, may_start, start_refused, starts_used}
+use Rattle.coll_core.proofs.start.StartAndFree.{bad_length, may_start, start_refused, starts_used}
 use Rattle.coll_core.proofs.engine.Core.may_start.Goals as goal
 
 pub returns-then-bytes-want-clause-refused : goal.returns-then-bytes-want-clause-refused

@@ -1,4 +1,4 @@
-use Rattle.coll_core.proofs.Stepping.{acts_without_work, by_inside, by_not_quiet, combines_first, first_of, not_combine, steps_on}
+use Rattle.coll_core.proofs.step.Step.{acts_without_work, by_inside, by_not_quiet, combines_first, first_of, not_combine, steps_on}
 use Rattle.std.proofs.Common.{Ok, ap, inr, refl, subst, sym}
 use Rattle.coll_sched.specs.Actions.{IsCombine}
 use Rattle.coll_core.proofs.engine.Core.move_on.Goals as goal

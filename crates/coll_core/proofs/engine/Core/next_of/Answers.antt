@@ -1,5 +1,5 @@
 use Rattle.std.proofs.Common.{◌∙◌, sym}
-use Rattle.coll_core.proofs.Reading.{first_acts, first_some}
+use Rattle.coll_core.proofs.between.FirstOfReady.{first_acts, first_some}
 use Rattle.coll_core.proofs.engine.Core.next_of.Goals as goal
 
 pub unreachable-requires-in-None : goal.unreachable-requires-in-None

@@ -3,7 +3,7 @@ use Rattle.std.proofs.lemmas.List.{length-map}
 use Rattle.std.specs.Global.{Global}
 use Rattle.coll_machine.specs.Runs.{opened}
 use Rattle.coll_core.specs.Cores.{IsCore, Parts, seen}
-use Rattle.coll_core.proofs.Opening.{opened_core, have_groups}
+use Rattle.coll_core.proofs.opening.Opened.{opened_core, have_groups}
 use Rattle.coll_match.specs.Instances.{LookUps}
 use Rattle.coll_core.proofs.engine.Core.open.Goals as goal
 

@@ -1,6 +1,6 @@
 use Rattle.std.proofs.Common.{ap, sym, subst, arith}
 use Rattle.coll_core.specs.Cores.{IsCore}
-use Rattle.coll_core.proofs.Standings.{list_in}
+use Rattle.coll_core.proofs.between.LiveRequests.{list_in}
 use Rattle.coll_core.proofs.engine.Core.phase.Goals as goal
 
 -- src/engine.rt:106:12

@@ -1,6 +1,6 @@
 use Rattle.std.proofs.Common.{sym}
 use Rattle.coll_core.specs.Posts.{post_of}
-use Rattle.coll_core.proofs.Posting.{refused_so}
+use Rattle.coll_core.proofs.post.Post.{refused_so}
 use Rattle.coll_core.proofs.engine.Core.post.Goals as goal
 
 pub returns-in-Err-clause-refused : goal.returns-in-Err-clause-refused

@@ -1,8 +1,8 @@
 use Rattle.std.proofs.Common.{refl}
 use Rattle.coll_core.specs.Posts.{post_of}
-use Rattle.coll_core.proofs.Posting.{short_of, still_accepted}
+use Rattle.coll_core.proofs.post.Post.{short_of, still_accepted}
 use Rattle.coll_plans.specs.Plans.{family}
-use Rattle.coll_core.proofs.Progressing.{begins_since}
+use Rattle.coll_core.proofs.between.NoStep.{begins_since}
 use Rattle.coll_core.proofs.engine.Core.post_tested.Goals as goal
 
 pub returns-in-Err-clause-refused : goal.returns-in-Err-clause-refused

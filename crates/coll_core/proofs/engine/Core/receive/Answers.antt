@@ -2,9 +2,9 @@ use Rattle.std.proofs.Common.{ap, refl, subst}
 use Rattle.coll_sched.specs.declared.action.Action.TheVariants.{Recv}
 use Rattle.coll_core.specs.Cores.{Parts}
 use Rattle.coll_core.specs.Steps.{Acts}
-use Rattle.coll_core.proofs.Acting.{can_go_on, parts}
-use Rattle.coll_core.proofs.Doing.{message_came, message_long, message_taken, received}
-use Rattle.coll_core.proofs.Reading.{acts_at}
+use Rattle.coll_core.proofs.step.Act.{can_go_on, parts}
+use Rattle.coll_core.proofs.step.Actions.{message_came, message_long, message_taken, received}
+use Rattle.coll_core.proofs.between.FirstOfReady.{acts_at}
 use Rattle.coll_match.specs.Instances.{LookUps}
 use Rattle.coll_core.proofs.engine.Core.receive.Goals as goal
 

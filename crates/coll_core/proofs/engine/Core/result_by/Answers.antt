@@ -1,6 +1,6 @@
 use Rattle.std.proofs.Common.{◌∙◌, ap}
 use Rattle.coll_core.specs.Works.{Piece}
-use Rattle.coll_core.proofs.Committing.{out_filled}
+use Rattle.coll_core.proofs.commit.Commit.{out_filled}
 use Rattle.coll_core.proofs.engine.Core.result_by.Goals as goal
 
 pub result_by-requires : goal.result_by-requires

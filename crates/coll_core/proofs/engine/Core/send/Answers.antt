@@ -7,10 +7,10 @@ use Rattle.coll_core.specs.Advancing.{Brings, HaveLists}
 use Rattle.coll_core.specs.Cores.{IsCore, Parts}
 use Rattle.coll_core.specs.Requests.{shown}
 use Rattle.coll_core.specs.Steps.{Acts}
-use Rattle.coll_core.proofs.Acting.{parts}
-use Rattle.coll_core.proofs.Doing.{on_err, same_written}
-use Rattle.coll_core.proofs.Sending.{can_go_then, has_given, no_message, sent, stands_sent, stood}
-use Rattle.coll_core.proofs.Reading.{acts_at, have_lists}
+use Rattle.coll_core.proofs.step.Act.{parts}
+use Rattle.coll_core.proofs.step.Actions.{on_err, same_written}
+use Rattle.coll_core.proofs.step.Send.{can_go_then, has_given, no_message, sent, stands_sent, stood}
+use Rattle.coll_core.proofs.between.FirstOfReady.{acts_at, have_lists}
 use Rattle.coll_match.specs.Instances.{LookUps}
 use Rattle.coll_refinement.specs.Engines.{Delivers}
 use Rattle.coll_core.proofs.engine.Core.send.Goals as goal

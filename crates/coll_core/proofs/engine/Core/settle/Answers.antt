@@ -1,7 +1,7 @@
 use Rattle.std.proofs.Common.{◌<◌, ◌^◌, arith}
 use Rattle.coll_core.specs.Steps.{left}
-use Rattle.coll_core.proofs.Settling.{left_fits, ran_more, ran_none}
-use Rattle.coll_core.proofs.Stepping.{first_of}
+use Rattle.coll_core.proofs.step.Settle.{left_fits, ran_more, ran_none}
+use Rattle.coll_core.proofs.step.Step.{first_of}
 use Rattle.coll_core.proofs.engine.Core.settle.Goals as goal
 
 pub loop-ticket-init : goal.loop-ticket-init

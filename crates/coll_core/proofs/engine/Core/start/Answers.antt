@@ -3,7 +3,7 @@ use Rattle.std.specs.Prelude.{IfSome}
 use Rattle.coll_arena.specs.Slots.{record_in}
 use Rattle.coll_core.specs.Starts.{Begun}
 use Rattle.coll_kinds.specs.Elements.{AreBytes}
-use Rattle.coll_core.proofs.Restarting.{can_begin, read_as, refused_so, short_so, started_begins, started_core, starts, the_record}
+use Rattle.coll_core.proofs.start.Start.{can_begin, read_as, refused_so, short_so, started_begins, started_core, starts, the_record}
 use Rattle.coll_core.proofs.engine.Core.start.Goals as goal
 
 pub returns-in-Err-clause-refused : goal.returns-in-Err-clause-refused

@@ -1,4 +1,4 @@
-use Rattle.coll_core.proofs.Stepping.{acts_first, by_inside, by_not_quiet, combines_first, first_of, not_combine, not_empty, steps_on}
+use Rattle.coll_core.proofs.step.Step.{acts_first, by_inside, by_not_quiet, combines_first, first_of, not_combine, not_empty, steps_on}
 use Rattle.std.proofs.Common.{subst, sym}
 use Rattle.coll_sched.specs.Actions.{IsCombine}
 use Rattle.coll_core.proofs.engine.Core.step.Goals as goal

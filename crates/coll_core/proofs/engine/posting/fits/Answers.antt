@@ -2,7 +2,7 @@ use Rattle.std.proofs.Common.{◌≡◌, ◌∙◌, ◌==◌, ◌&&◌, true, fa
 use Rattle.std.specs.Result.{result_err}
 use Rattle.std.proofs.lemmas.Grind.{common_steps}
 use Rattle.coll_core.specs.Posts.{planned}
-use Rattle.coll_core.proofs.Fitting.{fault_is, faultless, mode_is, faulty, wrong_mode, wrong_group, another_n, another_member}
+use Rattle.coll_core.proofs.post.FirstRefusal.{fault_is, faultless, mode_is, faulty, wrong_mode, wrong_group, another_n, another_member}
 use Rattle.coll_core.proofs.engine.posting.fits.Goals.{then-n-size-via-then-n-size, then-n-size-via-else-n-size+then-member}
 use Rattle.coll_core.proofs.engine.posting.fits.Goals as goal
 

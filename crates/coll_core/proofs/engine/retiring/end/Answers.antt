@@ -1,4 +1,4 @@
-use Rattle.coll_core.proofs.Retiring.{ended_lists}
+use Rattle.coll_core.proofs.retire.Retire.{ended_lists}
 use Rattle.coll_core.proofs.engine.retiring.end.Goals as goal
 
 pub returns-clause-lists : goal.returns-clause-lists

@@ -1,6 +1,6 @@
 use Rattle.std.proofs.Common.{ap}
 use Rattle.coll_refinement.specs.Requests.{Live}
-use Rattle.coll_core.proofs.Retiring.{rested, rested_lists}
+use Rattle.coll_core.proofs.retire.Retire.{rested, rested_lists}
 use Rattle.coll_core.proofs.engine.retiring.rest.Goals as goal
 
 pub returns-clause-rests : goal.returns-clause-rests

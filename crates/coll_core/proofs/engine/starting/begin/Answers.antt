@@ -1,7 +1,7 @@
 use Rattle.std.proofs.Common.{◌∙◌, ap}
 use Rattle.coll_kinds.specs.Lengths.{lent}
 use Rattle.coll_match.proofs.Sizes.{joined_gave}
-use Rattle.coll_core.proofs.Beginning.{begun_there, joined}
+use Rattle.coll_core.proofs.start.Begin.{begun_there, joined}
 use Rattle.coll_match.specs.Instances.{LookUps}
 use Rattle.coll_core.proofs.engine.starting.begin.Goals as goal
 

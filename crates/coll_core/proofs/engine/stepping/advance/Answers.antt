@@ -1,4 +1,4 @@
-use Rattle.coll_core.proofs.Advancing.{gone_on}
+use Rattle.coll_core.proofs.step.Advance.{gone_on}
 use Rattle.coll_core.proofs.engine.stepping.advance.Goals as goal
 
 pub returns : goal.returns

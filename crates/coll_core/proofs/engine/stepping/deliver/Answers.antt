@@ -1,5 +1,5 @@
-use Rattle.coll_core.proofs.Receiving.{brings, delivers}
-use Rattle.coll_core.proofs.Firsts.{first_before}
+use Rattle.coll_core.proofs.step.Wake.{brings, delivers}
+use Rattle.coll_core.proofs.step.NextOfReady.{first_before}
 use Rattle.coll_core.proofs.engine.stepping.deliver.Goals as goal
 
 pub returns-clause-delivers : goal.returns-clause-delivers

@@ -1,5 +1,5 @@
 use Rattle.std.proofs.Common.{sym}
-use Rattle.coll_core.proofs.Advancing.{placed, placed_behind, placed_there}
+use Rattle.coll_core.proofs.step.Advance.{placed, placed_behind, placed_there}
 use Rattle.coll_core.proofs.engine.stepping.place.Goals as goal
 
 pub returns-then-is_on-clause-puts : goal.returns-then-is_on-clause-puts

@@ -1,5 +1,5 @@
 use Rattle.std.proofs.Common.{◌∙◌, sym}
-use Rattle.coll_core.proofs.Receiving.{is_receiver}
+use Rattle.coll_core.proofs.step.Wake.{is_receiver}
 use Rattle.coll_core.proofs.engine.stepping.receiver.Goals as goal
 
 pub returns-then-can_receive-clause-can_receive : goal.returns-then-can_receive-clause-can_receive

@@ -1,5 +1,5 @@
 use Rattle.std.proofs.Common.{arith, ◌≡◌, ◌∙◌, ap, length, length-take-le}
-use Rattle.coll_core.proofs.NumberBytes.{bytes-number_again, bytes-next, bytes-behind, bytes-first}
+use Rattle.coll_core.proofs.values.NumberBytes.{bytes-number_again, bytes-next, bytes-behind, bytes-first}
 use Rattle.coll_core.proofs.outcome.Outcome.i32s.Goals as goal
 
 pub loop-first-preserved : goal.loop-first-preserved

@@ -1,7 +1,7 @@
 use Rattle.std.proofs.Common.{◌∙◌, Some, ap, sym}
 use Rattle.coll_match.specs.Instances.{mail}
-use Rattle.coll_core.proofs.Receiving.{came}
-use Rattle.coll_core.proofs.Options.{some_at}
+use Rattle.coll_core.proofs.step.Wake.{came}
+use Rattle.coll_core.proofs.values.Options.{some_at}
 use Rattle.coll_core.proofs.request.Request.can_receive.Goals as goal
 
 pub returns-then-eq : goal.returns-then-eq

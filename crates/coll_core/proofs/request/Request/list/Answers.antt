@@ -1,5 +1,5 @@
 use Rattle.std.proofs.Common.{◌∙◌, Some, ap, refl, sym}
-use Rattle.coll_core.proofs.Options.{none_at, some_at, is_some-true, is_some-false}
+use Rattle.coll_core.proofs.values.Options.{none_at, some_at, is_some-true, is_some-false}
 use Rattle.coll_sched.specs.declared.action.Action.TheVariants.{Send, Copy, Combine, Recv}
 use Rattle.coll_match.specs.Instances.{mail}
 use Rattle.coll_refinement.specs.Sound.{ready, queued}

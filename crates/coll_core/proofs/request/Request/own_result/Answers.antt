@@ -1,6 +1,6 @@
 use Rattle.std.proofs.Common.{true, ◌≡◌, ◌∙◌, Some, ap, sym}
 use Rattle.coll_core.specs.Requests.{shown}
-use Rattle.coll_core.proofs.Works.{own_of_regions}
+use Rattle.coll_core.proofs.commit.WorkOut.{own_of_regions}
 use Rattle.coll_core.proofs.request.Request.own_result.Goals as goal
 
 pub returns : goal.returns

@@ -1,6 +1,6 @@
 use Rattle.std.proofs.Common.{true, ◌≡◌, ◌∙◌, Some, ap, refl, sym}
 use Rattle.coll_core.specs.Requests.{shown}
-use Rattle.coll_core.proofs.Works.{stands_by}
+use Rattle.coll_core.proofs.commit.WorkOut.{stands_by}
 use Rattle.coll_core.proofs.request.Request.stands_at.Goals as goal
 
 pub returns-then-has : goal.returns-then-has

@@ -2,7 +2,7 @@ use Rattle.std.proofs.Common.{◌∙◌, Some, ap, sym, subst}
 use Rattle.std.specs.Prelude.{IfSome}
 use Rattle.coll_sched.specs.Actions.{Fits}
 use Rattle.coll_core.specs.Requests.{schedule, shown}
-use Rattle.coll_core.proofs.Works.{result_long}
+use Rattle.coll_core.proofs.commit.WorkOut.{result_long}
 use Rattle.coll_core.proofs.request.Request.write_short.Goals as goal
 
 pub write-requires-clause-same : goal.write-requires-clause-same

@@ -1,0 +1,4 @@
+pub mod WorkOut
+pub mod Commit
+pub mod Abandon
+pub mod CombinedRows

@@ -1,0 +1,5 @@
+pub mod Post
+pub mod Tests
+pub mod FirstRefusal
+pub mod Refused
+pub mod Room

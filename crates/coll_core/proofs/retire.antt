@@ -1,0 +1,2 @@
+pub mod Retire
+pub mod RootRow

@@ -1,0 +1,4 @@
+pub mod StartAndFree
+pub mod Room
+pub mod Begin
+pub mod Start

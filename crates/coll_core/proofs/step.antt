@@ -1,0 +1,10 @@
+pub mod Step
+pub mod Settle
+pub mod Actions
+pub mod Act
+pub mod OneActs
+pub mod NextOfReady
+pub mod Advance
+pub mod Wake
+pub mod Send
+pub mod Combine

@@ -1,0 +1,4 @@
+pub mod Below
+pub mod Regions
+pub mod Options
+pub mod NumberBytes

@@ -1,0 +1,12 @@
+pub mod Statements
+pub mod Calls
+pub mod Actions
+pub mod Sends
+pub mod Completions
+pub mod Changes
+pub mod Reads
+pub mod Tests
+pub mod Accepted
+pub mod Opened
+pub mod Slots
+pub mod ActionsLeft

@@ -1,0 +1,16 @@
+pub mod Invariant
+pub mod Simulation
+pub mod Statements
+pub mod WholeCalls
+pub mod Actions
+pub mod OneRequest
+pub mod OneChange
+pub mod Lists
+pub mod OtherLists
+pub mod LiveRequests
+pub mod Accepted
+pub mod CallTests
+pub mod PostingLists
+pub mod Finished
+pub mod ActionsLeft
+pub mod Keys
