@@ -1,5 +1,6 @@
 -- The calls of an arena: `a` is what its fields show, `v` what clauses see, and `n` the number that it keeps.
-use Rattle.std.proofs.Common.{◌≡◌, ℕ, ◌+◌, ◌-◌, ◌<◌, ◌≤◌, ◌^◌, true, cond, List, [], ◌∷◌, length, eqb, refl, sym, ap, subst, ◌∙◌, Option, Some, None, get_or, set, arith}
+use Rattle.std.proofs.Common.{◌≡◌, ℕ, ◌+◌, ◌-◌, ◌<◌, ◌≤◌, ◌^◌, true, cond, List, [], ◌∷◌, length, eqb, refl, sym, ap, subst, ◌∙◌, Option, Some, None}
+use Rattle.std.proofs.Common.{get_or, set, arith}
 use Rattle.std.proofs.lemmas.List.{get_or_read}
 use Rattle.std.proofs.lemmas.Option.{none-some}
 use Rattle.coll_kinds.specs.Limits.{max_lent}
@@ -16,12 +17,16 @@ use Rattle.coll_arena.specs.Slots.{Slots, count, generation_of, home, lent, name
 use Rattle.coll_arena.specs.Sound.{IsKept, IsSound}
 use Rattle.coll_arena.specs.Views.{view_of}
 use Rattle.coll_arena.proofs.Lents.{kept-fits, lent-retired, lent-reweighed, lent-same, lent-taken}
-use Rattle.coll_arena.proofs.Lookups.{PutsSlot-replaced, PutsSlot-retired, PutsSlot-reweighed, PutsSlot-shifted, PutsSlot-shifted_front, PutsSlot-taken, first_of}
-use Rattle.coll_arena.proofs.Sounds.{IsSound-replaced, IsSound-retired, IsSound-reweighed, IsSound-rewritten, IsSound-shifted, IsSound-shifted_front, IsSound-taken, Named, Named-names, free_first}
+use Rattle.coll_arena.proofs.Lookups.{PutsSlot-replaced, PutsSlot-retired, PutsSlot-reweighed, PutsSlot-shifted, PutsSlot-shifted_front}
+use Rattle.coll_arena.proofs.Lookups.{PutsSlot-taken, first_of}
+use Rattle.coll_arena.proofs.Sounds.{IsSound-replaced, IsSound-retired, IsSound-reweighed, IsSound-rewritten, IsSound-shifted, IsSound-shifted_front}
+use Rattle.coll_arena.proofs.Sounds.{IsSound-taken, Named, Named-names, free_first}
 
 -- equal columns make equal views
-pub same_columns : {R : Type 0} (g h v w : List ℕ) (r t : List (Option R)) (l m : Layout) (comms wear : ℕ) → g ≡ h → v ≡ w → r ≡ t → l ≡ m → view_of g v r l comms wear ≡ view_of h w t m comms wear
-same_columns g h v w r t l m comms wear e1 e2 e3 e4 = λ i. record { generations = e1 i; weights = e2 i; records = e3 i; lists = e4 i; comms = comms; wear = wear }
+pub same_columns : {R : Type 0} (g h v w : List ℕ) (r t : List (Option R)) (l m : Layout) (comms wear : ℕ) → g ≡ h → v ≡ w
+    → r ≡ t → l ≡ m → view_of g v r l comms wear ≡ view_of h w t m comms wear
+same_columns g h v w r t l m comms wear e1 e2 e3 e4 =
+    λ i. record { generations = e1 i; weights = e2 i; records = e3 i; lists = e4 i; comms = comms; wear = wear }
 
 -- a sequence without a first node is empty
 pub none_first : (xs : List ℕ) → None ≡ first_in xs → xs ≡ []
@@ -97,7 +102,8 @@ module _ {R : Type 0} (a v : Slots R) (n : ℕ) (e : a ≡ v) (k : IsKept a n) w
       let all : w ≡ op v = is ∙ ap op e in
       record { kept = subst (λ z. IsKept z sum) (sym all) (record { sound = sound; counted = sum_is }); is = all }
 
-  module _ (slot : ℕ) (rec : R) (weight list : ℕ) (first : first_in (sequence a.lists 0) ≡ Some slot) (light : weight ≤ max_lent) (live : 2 ≤ list) (low : list < list_count v.comms) where
+  module _ (slot : ℕ) (rec : R) (weight list : ℕ) (first : first_in (sequence a.lists 0) ≡ Some slot) (light : weight ≤ max_lent)
+      (live : 2 ≤ list) (low : list < list_count v.comms) where
     taken_sound : IsSound (taken v slot rec weight list)
     taken_sound = let at = free slot first in IsSound-taken v slot rec weight list seen at.0 at.1 light live (list_seen list low)
 
@@ -111,16 +117,20 @@ module _ {R : Type 0} (a v : Slots R) (n : ℕ) (e : a ≡ v) (k : IsKept a n) w
         let fits : lent (taken v slot rec weight list) < 2 ^ 64 = kept-fits (taken v slot rec weight list) taken_sound in
         omega arith
 
-    pub takes : (read generation number sum : ℕ) (links : Layout) → read ≡ get_or a.generations slot read → generation ≡ read + 1 → number ≡ list → sum ≡ n + weight → links ≡ moved_back slot number a.lists →
-        Changes (view_of (set a.generations slot generation) (set a.weights slot weight) (set a.records slot (Some rec)) links a.comms a.wear) (taken v slot rec weight list) sum
+    pub takes : (read generation number sum : ℕ) (links : Layout) → read ≡ get_or a.generations slot read → generation ≡ read + 1
+        → number ≡ list → sum ≡ n + weight → links ≡ moved_back slot number a.lists →
+        Changes (view_of (set a.generations slot generation) (set a.weights slot weight) (set a.records slot (Some rec)) links a.comms a.wear)
+        (taken v slot rec weight list) sum
     takes read generation number sum links read_is generation_is number_is sum_is links_is =
         let at = free slot first in
         changes (λ z. taken z slot rec weight list) _ sum
         (same_columns _ _ _ _ _ _ _ _ a.comms a.wear
-        (ap (set a.generations slot) (generation_is ∙ ap (λ g. g + 1) (get_or_read a.generations slot read (in_generations slot at.0) read_is 0))) refl refl (links_is ∙ ap (λ l. moved_back slot l a.lists) number_is))
+        (ap (set a.generations slot) (generation_is ∙ ap (λ g. g + 1) (get_or_read a.generations slot read (in_generations slot at.0) read_is 0)))
+        refl refl (links_is ∙ ap (λ l. moved_back slot l a.lists) number_is))
         taken_sound (sum_is ∙ ap (λ z. z + weight) counted ∙ sym takes_lent)
 
-    pub takes_puts : (w : Slots R) (generation : ℕ) → w ≡ taken v slot rec weight list → generation ≡ generation_of v slot + 1 → PutsSlot v w slot generation weight (Some rec) list
+    pub takes_puts : (w : Slots R) (generation : ℕ) → w ≡ taken v slot rec weight list → generation ≡ generation_of v slot + 1
+        → PutsSlot v w slot generation weight (Some rec) list
     takes_puts w generation is generation_is =
         let at = free slot first in
         subst (λ z. PutsSlot v z slot generation weight (Some rec) list) (sym is)
@@ -163,7 +173,8 @@ module _ {R : Type 0} (a v : Slots R) (n : ℕ) (e : a ≡ v) (k : IsKept a n) w
       pub reweighs_puts : (w : Slots R) → w ≡ reweighed v t.slot weight → PutsSlot v w t.slot t.generation weight (record_in v t.slot) (home v t.slot)
       reweighs_puts w is =
           subst (λ z. PutsSlot v z t.slot t.generation weight (record_in v t.slot) (home v t.slot)) (sym is)
-          (subst (λ g. PutsSlot v (reweighed v t.slot weight) t.slot g weight (record_in v t.slot) (home v t.slot)) at.generation (PutsSlot-reweighed v seen t.slot at.low weight))
+          (subst (λ g. PutsSlot v (reweighed v t.slot weight) t.slot g weight (record_in v t.slot) (home v t.slot)) at.generation
+          (PutsSlot-reweighed v seen t.slot at.low weight))
 
     -- another list
     module _ (list : ℕ) (live : 2 ≤ list) (low : list < list_count v.comms) where
@@ -173,15 +184,18 @@ module _ {R : Type 0} (a v : Slots R) (n : ℕ) (e : a ≡ v) (k : IsKept a n) w
       pub shifts_lent : lent (shifted v t.slot list) ≡ lent v
       shifts_lent = lent-same v (shifted v t.slot list) seen shifted_sound refl
 
-      pub shifts : (number : ℕ) (links : Layout) → number ≡ list → links ≡ moved_back t.slot number a.lists → Changes (view_of a.generations a.weights a.records links a.comms a.wear) (shifted v t.slot list) n
+      pub shifts : (number : ℕ) (links : Layout) → number ≡ list → links ≡ moved_back t.slot number a.lists
+          → Changes (view_of a.generations a.weights a.records links a.comms a.wear) (shifted v t.slot list) n
       shifts number links number_is links_is =
-          changes (λ z. shifted z t.slot list) _ n (same_columns _ _ _ _ _ _ _ _ a.comms a.wear refl refl refl (links_is ∙ ap (λ l. moved_back t.slot l a.lists) number_is))
+          changes (λ z. shifted z t.slot list) _ n
+          (same_columns _ _ _ _ _ _ _ _ a.comms a.wear refl refl refl (links_is ∙ ap (λ l. moved_back t.slot l a.lists) number_is))
           shifted_sound (counted ∙ sym shifts_lent)
 
       pub shifts_puts : (w : Slots R) → w ≡ shifted v t.slot list → PutsSlot v w t.slot t.generation (weight_of v t.slot) (record_in v t.slot) list
       shifts_puts w is =
           subst (λ z. PutsSlot v z t.slot t.generation (weight_of v t.slot) (record_in v t.slot) list) (sym is)
-          (subst (λ g. PutsSlot v (shifted v t.slot list) t.slot g (weight_of v t.slot) (record_in v t.slot) list) at.generation (PutsSlot-shifted v seen t.slot at.low list (list_seen list low)))
+          (subst (λ g. PutsSlot v (shifted v t.slot list) t.slot g (weight_of v t.slot) (record_in v t.slot) list) at.generation
+          (PutsSlot-shifted v seen t.slot at.low list (list_seen list low)))
 
       front_sound : IsSound (shifted_front v t.slot list)
       front_sound = IsSound-shifted_front v t.slot list seen at.low at.live live (list_seen list low)
@@ -189,15 +203,18 @@ module _ {R : Type 0} (a v : Slots R) (n : ℕ) (e : a ≡ v) (k : IsKept a n) w
       pub shifts_front_lent : lent (shifted_front v t.slot list) ≡ lent v
       shifts_front_lent = lent-same v (shifted_front v t.slot list) seen front_sound refl
 
-      pub shifts_front : (number : ℕ) (links : Layout) → number ≡ list → links ≡ moved_front t.slot number a.lists → Changes (view_of a.generations a.weights a.records links a.comms a.wear) (shifted_front v t.slot list) n
+      pub shifts_front : (number : ℕ) (links : Layout) → number ≡ list → links ≡ moved_front t.slot number a.lists
+          → Changes (view_of a.generations a.weights a.records links a.comms a.wear) (shifted_front v t.slot list) n
       shifts_front number links number_is links_is =
-          changes (λ z. shifted_front z t.slot list) _ n (same_columns _ _ _ _ _ _ _ _ a.comms a.wear refl refl refl (links_is ∙ ap (λ l. moved_front t.slot l a.lists) number_is))
+          changes (λ z. shifted_front z t.slot list) _ n
+          (same_columns _ _ _ _ _ _ _ _ a.comms a.wear refl refl refl (links_is ∙ ap (λ l. moved_front t.slot l a.lists) number_is))
           front_sound (counted ∙ sym shifts_front_lent)
 
       pub shifts_front_puts : (w : Slots R) → w ≡ shifted_front v t.slot list → PutsSlot v w t.slot t.generation (weight_of v t.slot) (record_in v t.slot) list
       shifts_front_puts w is =
           subst (λ z. PutsSlot v z t.slot t.generation (weight_of v t.slot) (record_in v t.slot) list) (sym is)
-          (subst (λ g. PutsSlot v (shifted_front v t.slot list) t.slot g (weight_of v t.slot) (record_in v t.slot) list) at.generation (PutsSlot-shifted_front v seen t.slot at.low list (list_seen list low)))
+          (subst (λ g. PutsSlot v (shifted_front v t.slot list) t.slot g (weight_of v t.slot) (record_in v t.slot) list)
+          at.generation (PutsSlot-shifted_front v seen t.slot at.low list (list_seen list low)))
 
       -- another record too
       module _ (rec : R) where
@@ -210,13 +227,16 @@ module _ {R : Type 0} (a v : Slots R) (n : ℕ) (e : a ≡ v) (k : IsKept a n) w
         pub replaces : (number : ℕ) (written : Option R) (links : Layout) → written ≡ Some rec → number ≡ list → links ≡ moved_back t.slot number a.lists →
             Changes (view_of a.generations a.weights (set a.records t.slot written) links a.comms a.wear) (replaced v t.slot rec list) n
         replaces number written links written_is number_is links_is =
-            changes (λ z. replaced z t.slot rec list) _ n (same_columns _ _ _ _ _ _ _ _ a.comms a.wear refl refl (ap (set a.records t.slot) written_is) (links_is ∙ ap (λ l. moved_back t.slot l a.lists) number_is))
+            changes (λ z. replaced z t.slot rec list) _ n
+            (same_columns _ _ _ _ _ _ _ _ a.comms a.wear refl refl (ap (set a.records t.slot) written_is)
+            (links_is ∙ ap (λ l. moved_back t.slot l a.lists) number_is))
             replaced_sound (counted ∙ sym replaces_lent)
 
         pub replaces_puts : (w : Slots R) → w ≡ replaced v t.slot rec list → PutsSlot v w t.slot t.generation (weight_of v t.slot) (Some rec) list
         replaces_puts w is =
             subst (λ z. PutsSlot v z t.slot t.generation (weight_of v t.slot) (Some rec) list) (sym is)
-            (subst (λ g. PutsSlot v (replaced v t.slot rec list) t.slot g (weight_of v t.slot) (Some rec) list) at.generation (PutsSlot-replaced v seen t.slot at.low rec list (list_seen list low)))
+            (subst (λ g. PutsSlot v (replaced v t.slot rec list) t.slot g (weight_of v t.slot) (Some rec) list) at.generation
+            (PutsSlot-replaced v seen t.slot at.low rec list (list_seen list low)))
 
     -- the request leaves
     pub retires_lent : lent (retired v t.slot) + weight_of v t.slot ≡ lent v
@@ -228,7 +248,8 @@ module _ {R : Type 0} (a v : Slots R) (n : ℕ) (e : a ≡ v) (k : IsKept a n) w
         let most : weight_of v t.slot ≤ n = weight_counted t.slot at.low in
         omega arith
 
-    pub retires : (before number sum : ℕ) (rest : Option R) (links : Layout) → rest ≡ None → before ≡ get_or a.weights t.slot before → sum ≡ n - before → number ≡ cond (eqb t.generation a.wear) 1 0 → links ≡ moved_back t.slot number a.lists →
+    pub retires : (before number sum : ℕ) (rest : Option R) (links : Layout) → rest ≡ None
+        → before ≡ get_or a.weights t.slot before → sum ≡ n - before → number ≡ cond (eqb t.generation a.wear) 1 0 → links ≡ moved_back t.slot number a.lists →
         Changes (view_of a.generations (set a.weights t.slot 0) (set a.records t.slot rest) links a.comms a.wear) (retired v t.slot) sum
     retires before number sum rest links rest_is is sum_is number_is links_is =
         let read : before ≡ weight_of v t.slot = weight_read t.slot before at.low is in
@@ -236,7 +257,8 @@ module _ {R : Type 0} (a v : Slots R) (n : ℕ) (e : a ≡ v) (k : IsKept a n) w
         let all : lent (retired v t.slot) + weight_of v t.slot ≡ lent v = retires_lent in
         let same : t.generation ≡ generation_of a t.slot = sym at.generation ∙ ap (λ z. generation_of z t.slot) (sym e) in
         changes (λ z. retired z t.slot) _ sum
-        (same_columns _ _ _ _ _ _ _ _ a.comms a.wear refl refl (ap (set a.records t.slot) rest_is) (links_is ∙ ap (λ l. moved_back t.slot l a.lists) (number_is ∙ ap (λ g. cond (eqb g a.wear) 1 0) same)))
+        (same_columns _ _ _ _ _ _ _ _ a.comms a.wear refl refl (ap (set a.records t.slot) rest_is)
+        (links_is ∙ ap (λ l. moved_back t.slot l a.lists) (number_is ∙ ap (λ g. cond (eqb g a.wear) 1 0) same)))
         (IsSound-retired v t.slot seen at.low) (omega arith)
 
     pub retires_puts : (w : Slots R) → w ≡ retired v t.slot → PutsSlot v w t.slot t.generation 0 None (cond (eqb t.generation v.wear) 1 0)
@@ -245,20 +267,24 @@ module _ {R : Type 0} (a v : Slots R) (n : ℕ) (e : a ≡ v) (k : IsKept a n) w
         (subst (λ g. PutsSlot v (retired v t.slot) t.slot g 0 None (cond (eqb g v.wear) 1 0)) at.generation (PutsSlot-retired v seen t.slot at.low))
 
   -- a record written through a reference
-  pub rewrites : (slot : ℕ) (rec : R) → slot < count v → 1 < home v slot → Changes (view_of a.generations a.weights (set a.records slot (Some rec)) a.lists a.comms a.wear) (rewritten v slot rec) n
+  pub rewrites : (slot : ℕ) (rec : R) → slot < count v → 1 < home v slot
+      → Changes (view_of a.generations a.weights (set a.records slot (Some rec)) a.lists a.comms a.wear) (rewritten v slot rec) n
   rewrites slot rec low live =
       let sound : IsSound (rewritten v slot rec) = IsSound-rewritten v slot rec seen low live in
       changes (λ z. rewritten z slot rec) _ n refl sound (counted ∙ sym (lent-same v (rewritten v slot rec) seen sound refl))
 
   -- a list's first slot
-  pub first_low : (list number slot : ℕ) → list < list_count v.comms → number ≡ list → Some slot ≡ first_in (sequence a.lists number) → first_in (sequence v.lists list) ≡ Some slot
+  pub first_low : (list number slot : ℕ) → list < list_count v.comms → number ≡ list
+      → Some slot ≡ first_in (sequence a.lists number) → first_in (sequence v.lists list) ≡ Some slot
   first_low list number slot low number_is is = sym (is ∙ ap (λ l. first_in (sequence a.lists l)) number_is ∙ ap (λ z. first_in (sequence z.lists list)) e)
 
   pub first_count : (list slot : ℕ) → list < list_count v.comms → first_in (sequence v.lists list) ≡ Some slot → slot < count v
   first_count list slot low first = (stands (count v) v.lists seen.lawful slot list (list_seen list low) (first_stands (sequence v.lists list) slot first)).0
 
-  pub firsts : (list slot : ℕ) (t : Ticket) → 2 ≤ list → list < list_count v.comms → first_in (sequence v.lists list) ≡ Some slot → t ≡ ticket_of v slot → IsFirst v list t
+  pub firsts : (list slot : ℕ) (t : Ticket) → 2 ≤ list → list < list_count v.comms → first_in (sequence v.lists list) ≡ Some slot
+      → t ≡ ticket_of v slot → IsFirst v list t
   firsts list slot t live low first t_is = first_of v seen list slot t live (list_seen list low) first t_is
 
   pub first_none : (list number : ℕ) → number ≡ list → None ≡ first_in (sequence a.lists number) → sequence v.lists list ≡ []
-  first_none list number number_is is = none_first (sequence v.lists list) (is ∙ ap (λ l. first_in (sequence a.lists l)) number_is ∙ ap (λ z. first_in (sequence z.lists list)) e)
+  first_none list number number_is is =
+      none_first (sequence v.lists list) (is ∙ ap (λ l. first_in (sequence a.lists l)) number_is ∙ ap (λ z. first_in (sequence z.lists list)) e)

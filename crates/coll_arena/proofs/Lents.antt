@@ -1,5 +1,6 @@
 -- The sum of the live slots' weights.
-use Rattle.std.proofs.Common.{◌≡◌, ℕ, ◌+◌, ◌*◌, ◌<◌, ◌≤◌, ◌^◌, ◌&&◌, List, length, map, sym, ap, subst, ◌∙◌, inl, inr, cond, ltb, lt-ltb, le-ltb, get_or, set, sum, arith, add-zero}
+use Rattle.std.proofs.Common.{◌≡◌, ℕ, ◌+◌, ◌*◌, ◌<◌, ◌≤◌, ◌^◌, ◌&&◌, List, length, map, sym, ap, subst, ◌∙◌, inl, inr, cond, ltb, lt-ltb, le-ltb}
+use Rattle.std.proofs.Common.{get_or, set, sum, arith, add-zero}
 use Rattle.std.proofs.lemmas.Bool.{cases_lt}
 use Rattle.std.proofs.lemmas.List.{ext_get_or, get_or_default, length-map}
 use Rattle.std.proofs.lemmas.List.FromFn.{get_or-map-range_with_len, length-range_with_len}
@@ -26,7 +27,8 @@ module _ {R : Type 0} where
 
   pub lent-sum : (a : Slots R) → IsSound a → lent a ≡ sum a.weights
   lent-sum a s =
-      let len : length (map (lent_by a) (range_with_len 0 (count a))) ≡ count a = length-map (range_with_len 0 (count a)) (lent_by a) ∙ length-range_with_len 0 (count a) in
+      let len : length (map (lent_by a) (range_with_len 0 (count a))) ≡ count a =
+      length-map (range_with_len 0 (count a)) (lent_by a) ∙ length-range_with_len 0 (count a) in
       ap sum (ext_get_or 0 (map (lent_by a) (range_with_len 0 (count a))) a.weights
       (len ∙ sym s.weights_len)
       (λ i low.
@@ -42,14 +44,16 @@ module _ {R : Type 0} where
       omega (arith, s.weights_len, s.count_fits)
 
   -- the sum after each call
-  pub lent-taken : (a : Slots R) (slot : ℕ) (rec : R) (weight list : ℕ) → IsSound a → IsSound (taken a slot rec weight list) → slot < count a → home a slot ≡ 0 → lent (taken a slot rec weight list) ≡ lent a + weight
+  pub lent-taken : (a : Slots R) (slot : ℕ) (rec : R) (weight list : ℕ) → IsSound a → IsSound (taken a slot rec weight list)
+      → slot < count a → home a slot ≡ 0 → lent (taken a slot rec weight list) ≡ lent a + weight
   lent-taken a slot rec weight list s t low free =
       let none : weight_of a slot ≡ 0 = (s.slots slot low).weightless (omega (arith, free)) in
       let step : sum (set a.weights slot weight) + weight_of a slot ≡ sum a.weights + weight = sum-set a.weights slot weight (omega (arith, s.weights_len)) in
       let before : lent a ≡ sum a.weights = lent-sum a s in
       lent-sum (taken a slot rec weight list) t ∙ omega (arith, none, step, before)
 
-  pub lent-reweighed : (a : Slots R) (slot weight : ℕ) → IsSound a → IsSound (reweighed a slot weight) → slot < count a → lent (reweighed a slot weight) + weight_of a slot ≡ lent a + weight
+  pub lent-reweighed : (a : Slots R) (slot weight : ℕ) → IsSound a → IsSound (reweighed a slot weight) → slot < count a
+      → lent (reweighed a slot weight) + weight_of a slot ≡ lent a + weight
   lent-reweighed a slot weight s t low =
       let step : sum (set a.weights slot weight) + weight_of a slot ≡ sum a.weights + weight = sum-set a.weights slot weight (omega (arith, s.weights_len)) in
       ap (λ z. z + weight_of a slot) (lent-sum (reweighed a slot weight) t) ∙ step ∙ ap (λ z. z + weight) (sym (lent-sum a s))

@@ -1,5 +1,6 @@
 -- What each call does to the look-ups by slot, for callers that keep functions of slots.
-use Rattle.std.proofs.Common.{◌≡◌, ◌≢◌, ℕ, zero, suc, ◌+◌, ◌<◌, ◌≤◌, cond, List, [], ◌∷◌, length, sym, refl, ap, subst, ◌∙◌, inl, inr, Some, None, eq-eqb, ne_eqb, lt-ltb, le-ltb, get_or, set, arith}
+use Rattle.std.proofs.Common.{◌≡◌, ◌≢◌, ℕ, zero, suc, ◌+◌, ◌<◌, ◌≤◌, cond, List, [], ◌∷◌, length, sym, refl, ap, subst, ◌∙◌, inl, inr, Some, None}
+use Rattle.std.proofs.Common.{eq-eqb, ne_eqb, lt-ltb, le-ltb, get_or, set, arith}
 use Rattle.std.proofs.lemmas.Bool.{cases_eq, cases_lt}
 use Rattle.std.proofs.lemmas.List.{get_or-set_other, get_or-set_same, length-set}
 use Rattle.coll_lists.specs.Keeping.{KeepsTheRest}
@@ -34,9 +35,11 @@ pub put-own : {A : Type 0} (f : ℕ → A) (place : ℕ) → f ≡ put f place (
 put-own f place = put-same f f place (f place) refl (λ other ne. refl)
 
 -- a written column
-pub get_or-set-put : {A : Type 0} (xs : List A) (place : ℕ) (value d : A) → place < length xs → (λ i. get_or (set xs place value) i d) ≡ put (λ i. get_or xs i d) place value
+pub get_or-set-put : {A : Type 0} (xs : List A) (place : ℕ) (value d : A) → place < length xs
+    → (λ i. get_or (set xs place value) i d) ≡ put (λ i. get_or xs i d) place value
 get_or-set-put xs place value d low =
-    put-same (λ i. get_or xs i d) (λ i. get_or (set xs place value) i d) place value (get_or-set_same xs place value d low) (λ other ne. get_or-set_other xs place other value d ne)
+    put-same (λ i. get_or xs i d) (λ i. get_or (set xs place value) i d) place value (get_or-set_same xs place value d low)
+    (λ other ne. get_or-set_other xs place other value d ne)
 
 pub list_of-put : (x l : ℕ) (L M : Layout) → KeepsTheRest x l L M → list_of M ≡ put (list_of L) x l
 list_of-put x l L M keeps = put-same (list_of L) (list_of M) x l keeps.place keeps.others
@@ -55,7 +58,8 @@ times-off x (s ∷ rest) (suc k) once off =
       | inl some ↦
           let h : times x (sequence rest k) ≤ times x (concat rest) = times-sequence x rest k in
           omega (arith, e, h, some, once)
-      | inr none ↦ times-off x rest k (omega (arith, e, once)) (λ z. off (ap suc z ∙ sym (ap (λ b. cond b 0 (suc (list_of rest x))) (le-ltb 0 (times x s) none))))
+      | inr none ↦ times-off x rest k (omega (arith, e, once))
+          (λ z. off (ap suc z ∙ sym (ap (λ b. cond b 0 (suc (list_of rest x))) (le-ltb 0 (times x s) none))))
     ]
 
 pub taken_out-none : (x : ℕ) (s : List ℕ) → times x s ≡ 0 → taken_out x s ≡ s
@@ -80,7 +84,8 @@ pub moved-others : (n x l : ℕ) (L M : Layout) → IsLawful n L → Moved x l L
 moved-others n x l L M lawful m k off other = m.others k other ∙ still-out n x L lawful k off
 
 -- the first slot of a list of live requests
-pub first_of : {R : Type 0} (a : Slots R) → IsSound a → (l slot : ℕ) (t : Ticket) → 2 ≤ l → l < length a.lists → first_in (sequence a.lists l) ≡ Some slot → t ≡ ticket_of a slot → IsFirst a l t
+pub first_of : {R : Type 0} (a : Slots R) → IsSound a → (l slot : ℕ) (t : Ticket) → 2 ≤ l → l < length a.lists
+    → first_in (sequence a.lists l) ≡ Some slot → t ≡ ticket_of a slot → IsFirst a l t
 first_of a s l slot t live low first is =
     let at = stands (count a) a.lists s.lawful slot l low (first_stands (sequence a.lists l) slot first) in
     subst (IsFirst a l) (sym is)
@@ -92,7 +97,8 @@ first_of a s l slot t live low first is =
     })
 
 module _ {R : Type 0} (a : Slots R) (s : IsSound a) (slot : ℕ) (low : slot < count a) where
-  pub PutsSlot-taken : (rec : R) (weight list : ℕ) → list < length a.lists → PutsSlot a (taken a slot rec weight list) slot (generation_of a slot + 1) weight (Some rec) list
+  pub PutsSlot-taken : (rec : R) (weight list : ℕ) → list < length a.lists
+      → PutsSlot a (taken a slot rec weight list) slot (generation_of a slot + 1) weight (Some rec) list
   PutsSlot-taken rec weight list list_low = record {
     count_is = length-set a.generations slot _;
     comms_is = refl;
@@ -134,7 +140,8 @@ module _ {R : Type 0} (a : Slots R) (s : IsSound a) (slot : ℕ) (low : slot < c
     from = λ other away. sym (still-out (count a) slot a.lists s.lawful other away);
   }
 
-  pub PutsSlot-shifted : (list : ℕ) → list < length a.lists → PutsSlot a (shifted a slot list) slot (generation_of a slot) (weight_of a slot) (record_in a slot) list
+  pub PutsSlot-shifted : (list : ℕ) → list < length a.lists
+      → PutsSlot a (shifted a slot list) slot (generation_of a slot) (weight_of a slot) (record_in a slot) list
   PutsSlot-shifted list list_low = record {
     count_is = refl;
     comms_is = refl;
@@ -148,7 +155,8 @@ module _ {R : Type 0} (a : Slots R) (s : IsSound a) (slot : ℕ) (low : slot < c
     from = (Moved-back slot list a.lists list_low).others;
   }
 
-  pub PutsSlot-shifted_front : (list : ℕ) → list < length a.lists → PutsSlot a (shifted_front a slot list) slot (generation_of a slot) (weight_of a slot) (record_in a slot) list
+  pub PutsSlot-shifted_front : (list : ℕ) → list < length a.lists
+      → PutsSlot a (shifted_front a slot list) slot (generation_of a slot) (weight_of a slot) (record_in a slot) list
   PutsSlot-shifted_front list list_low = record {
     count_is = refl;
     comms_is = refl;
@@ -162,7 +170,8 @@ module _ {R : Type 0} (a : Slots R) (s : IsSound a) (slot : ℕ) (low : slot < c
     from = (Moved-front slot list a.lists list_low).others;
   }
 
-  pub PutsSlot-replaced : (rec : R) (list : ℕ) → list < length a.lists → PutsSlot a (replaced a slot rec list) slot (generation_of a slot) (weight_of a slot) (Some rec) list
+  pub PutsSlot-replaced : (rec : R) (list : ℕ) → list < length a.lists
+      → PutsSlot a (replaced a slot rec list) slot (generation_of a slot) (weight_of a slot) (Some rec) list
   PutsSlot-replaced rec list list_low = record {
     count_is = refl;
     comms_is = refl;

@@ -1,5 +1,6 @@
 -- A new arena is sound.
-use Rattle.std.proofs.Common.{◌≡◌, ℕ, zero, suc, ◌+◌, ◌-◌, ◌<◌, ◌^◌, cond, List, [], ◌∷◌, length, ltb, sym, refl, ap, subst, ◌∙◌, Option, None, is_some, lt-ltb, le-ltb, get_or, replicate, arith, add-zero, sum, zero-add}
+use Rattle.std.proofs.Common.{◌≡◌, ℕ, zero, suc, ◌+◌, ◌-◌, ◌<◌, ◌^◌, cond, List, [], ◌∷◌, length, ltb, sym, refl, ap, subst, ◌∙◌, Option, None}
+use Rattle.std.proofs.Common.{is_some, lt-ltb, le-ltb, get_or, replicate, arith, add-zero, sum, zero-add}
 use Rattle.std.proofs.lemmas.List.{get_or-replicate, length-replicate}
 use Rattle.std.specs.List.{concat, range_with_len}
 use Rattle.coll_lists.specs.Layouts.{IsLawful, Layout, list_of, times}

@@ -1,5 +1,6 @@
 -- Every call keeps what holds of an arena.
-use Rattle.std.proofs.Common.{◌≡◌, ◌≢◌, ℕ, ◌+◌, ◌<◌, ◌≤◌, true, cond, length, eqb, ltb, sym, refl, ap, subst, ◌∙◌, inl, inr, Option, Some, None, is_some, lt-ltb, le-ltb, eqb-true, ltb-true, eq-eqb, ne_eqb, arith}
+use Rattle.std.proofs.Common.{◌≡◌, ◌≢◌, ℕ, ◌+◌, ◌<◌, ◌≤◌, true, cond, length, eqb, ltb, sym, refl, ap, subst, ◌∙◌, inl, inr, Option, Some, None}
+use Rattle.std.proofs.Common.{is_some, lt-ltb, le-ltb, eqb-true, ltb-true, eq-eqb, ne_eqb, arith}
 use Rattle.std.proofs.lemmas.Bool.{and_parts, cases_eq}
 use Rattle.std.proofs.lemmas.List.{get_or-set_other, get_or-set_same, length-set}
 use Rattle.coll_lists.specs.Keeping.{KeepsTheRest}
@@ -41,7 +42,8 @@ pub names_all : {R : Type 0} (a : Slots R) (t : Ticket) → t.slot < count a →
 names_all a t low live is = rw (lt-ltb t.slot (count a) low, lt-ltb 1 (home a t.slot) live, eq-eqb (generation_of a t.slot) t.generation is) refl
 
 -- what holds of a slot depends on these alone
-pub IsSoundSlot-same : {R : Type 0} (wear g h v w : ℕ) (r t : Option R) (l m : ℕ) → h ≡ g → w ≡ v → t ≡ r → m ≡ l → IsSoundSlot wear g v r l → IsSoundSlot wear h w t m
+pub IsSoundSlot-same : {R : Type 0} (wear g h v w : ℕ) (r t : Option R) (l m : ℕ) → h ≡ g → w ≡ v → t ≡ r → m ≡ l
+    → IsSoundSlot wear g v r l → IsSoundSlot wear h w t m
 IsSoundSlot-same wear g h v w r t l m e f i j s =
     record {
       aged = omega (arith, e, s.aged);
@@ -86,7 +88,8 @@ IsSound-differs a b slot s d at =
           ];
     }
 
-pub Differs-taken : {R : Type 0} (a : Slots R) (slot : ℕ) (rec : R) (weight list : ℕ) → IsSound a → slot < count a → list < length a.lists → Differs a (taken a slot rec weight list) slot
+pub Differs-taken : {R : Type 0} (a : Slots R) (slot : ℕ) (rec : R) (weight list : ℕ) → IsSound a → slot < count a
+    → list < length a.lists → Differs a (taken a slot rec weight list) slot
 Differs-taken a slot rec weight list s low list_low =
     let keeps : KeepsTheRest slot list a.lists (moved_back slot list a.lists) = KeepsTheRest-back slot list a.lists list_low in
     record {
@@ -103,13 +106,15 @@ Differs-taken a slot rec weight list s low list_low =
       list = λ other ne. keeps.others other ne;
     }
 
-pub IsSound-taken : {R : Type 0} (a : Slots R) (slot : ℕ) (rec : R) (weight list : ℕ) → IsSound a → slot < count a → home a slot ≡ 0 → weight ≤ max_lent → 2 ≤ list → list < length a.lists → IsSound (taken a slot rec weight list)
+pub IsSound-taken : {R : Type 0} (a : Slots R) (slot : ℕ) (rec : R) (weight list : ℕ) → IsSound a → slot < count a
+    → home a slot ≡ 0 → weight ≤ max_lent → 2 ≤ list → list < length a.lists → IsSound (taken a slot rec weight list)
 IsSound-taken a slot rec weight list s low free light live list_low =
     let was : IsSoundSlot a.wear (generation_of a slot) (weight_of a slot) (record_in a slot) (home a slot) = s.slots slot low in
     let young : generation_of a slot < a.wear = was.free free in
     let generation : generation_of (taken a slot rec weight list) slot ≡ generation_of a slot + 1 = get_or-set_same a.generations slot _ 0 low in
     let weighs : weight_of (taken a slot rec weight list) slot ≡ weight = get_or-set_same a.weights slot weight 0 (omega (arith, s.weights_len)) in
-    let found : record_in (taken a slot rec weight list) slot ≡ Some rec = get_or-set_same a.records slot (Some rec) None (subst (λ z. slot < z) (sym s.records_len) low) in
+    let found : record_in (taken a slot rec weight list) slot ≡ Some rec =
+    get_or-set_same a.records slot (Some rec) None (subst (λ z. slot < z) (sym s.records_len) low) in
     let lies : home (taken a slot rec weight list) slot ≡ list = (KeepsTheRest-back slot list a.lists list_low).place in
     IsSound-differs a (taken a slot rec weight list) slot s (Differs-taken a slot rec weight list s low list_low)
     (record {
@@ -124,7 +129,8 @@ IsSound-taken a slot rec weight list s low free light live list_low =
 pub IsSound-rewritten : {R : Type 0} (a : Slots R) (slot : ℕ) (rec : R) → IsSound a → slot < count a → 1 < home a slot → IsSound (rewritten a slot rec)
 IsSound-rewritten a slot rec s low live =
     let was : IsSoundSlot a.wear (generation_of a slot) (weight_of a slot) (record_in a slot) (home a slot) = s.slots slot low in
-    let found : record_in (rewritten a slot rec) slot ≡ Some rec = get_or-set_same a.records slot (Some rec) None (subst (λ z. slot < z) (sym s.records_len) low) in
+    let found : record_in (rewritten a slot rec) slot ≡ Some rec =
+    get_or-set_same a.records slot (Some rec) None (subst (λ z. slot < z) (sym s.records_len) low) in
     IsSound-differs a (rewritten a slot rec) slot s
     (record {
       count_is = refl;
@@ -148,7 +154,8 @@ IsSound-rewritten a slot rec s low live =
       light = was.light;
     })
 
-pub IsSound-reweighed : {R : Type 0} (a : Slots R) (slot weight : ℕ) → IsSound a → slot < count a → 1 < home a slot → weight ≤ max_lent → IsSound (reweighed a slot weight)
+pub IsSound-reweighed : {R : Type 0} (a : Slots R) (slot weight : ℕ) → IsSound a → slot < count a → 1 < home a slot
+    → weight ≤ max_lent → IsSound (reweighed a slot weight)
 IsSound-reweighed a slot weight s low live light =
     let was : IsSoundSlot a.wear (generation_of a slot) (weight_of a slot) (record_in a slot) (home a slot) = s.slots slot low in
     let weighs : weight_of (reweighed a slot weight) slot ≡ weight = get_or-set_same a.weights slot weight 0 (omega (arith, s.weights_len)) in
@@ -175,7 +182,8 @@ IsSound-reweighed a slot weight s low live light =
       light = omega (arith, weighs);
     })
 
-pub IsSound-moved : {R : Type 0} (a : Slots R) (slot list : ℕ) (lists : Layout) → IsSound a → slot < count a → 1 < home a slot → 2 ≤ list → length lists ≡ length a.lists → KeepsTheRest slot list a.lists lists → IsSound (record a { lists = lists })
+pub IsSound-moved : {R : Type 0} (a : Slots R) (slot list : ℕ) (lists : Layout) → IsSound a → slot < count a → 1 < home a slot
+    → 2 ≤ list → length lists ≡ length a.lists → KeepsTheRest slot list a.lists lists → IsSound (record a { lists = lists })
 IsSound-moved a slot list lists s low live live_list lists_is keeps =
     let was : IsSoundSlot a.wear (generation_of a slot) (weight_of a slot) (record_in a slot) (home a slot) = s.slots slot low in
     let lies : list_of lists slot ≡ list = keeps.place in
@@ -202,15 +210,20 @@ IsSound-moved a slot list lists s low live live_list lists_is keeps =
       light = was.light;
     })
 
-pub IsSound-shifted : {R : Type 0} (a : Slots R) (slot list : ℕ) → IsSound a → slot < count a → 1 < home a slot → 2 ≤ list → list < length a.lists → IsSound (shifted a slot list)
+pub IsSound-shifted : {R : Type 0} (a : Slots R) (slot list : ℕ) → IsSound a → slot < count a → 1 < home a slot → 2 ≤ list
+    → list < length a.lists → IsSound (shifted a slot list)
 IsSound-shifted a slot list s low live live_list list_low =
-    IsSound-moved a slot list (moved_back slot list a.lists) s low live live_list (Moved-back slot list a.lists list_low).lists (KeepsTheRest-back slot list a.lists list_low)
+    IsSound-moved a slot list (moved_back slot list a.lists) s low live live_list (Moved-back slot list a.lists list_low).lists
+    (KeepsTheRest-back slot list a.lists list_low)
 
-pub IsSound-shifted_front : {R : Type 0} (a : Slots R) (slot list : ℕ) → IsSound a → slot < count a → 1 < home a slot → 2 ≤ list → list < length a.lists → IsSound (shifted_front a slot list)
+pub IsSound-shifted_front : {R : Type 0} (a : Slots R) (slot list : ℕ) → IsSound a → slot < count a → 1 < home a slot → 2 ≤ list
+    → list < length a.lists → IsSound (shifted_front a slot list)
 IsSound-shifted_front a slot list s low live live_list list_low =
-    IsSound-moved a slot list (moved_front slot list a.lists) s low live live_list (Moved-front slot list a.lists list_low).lists (KeepsTheRest-front slot list a.lists list_low)
+    IsSound-moved a slot list (moved_front slot list a.lists) s low live live_list (Moved-front slot list a.lists list_low).lists
+    (KeepsTheRest-front slot list a.lists list_low)
 
-pub IsSound-replaced : {R : Type 0} (a : Slots R) (slot : ℕ) (rec : R) (list : ℕ) → IsSound a → slot < count a → 1 < home a slot → 2 ≤ list → list < length a.lists → IsSound (replaced a slot rec list)
+pub IsSound-replaced : {R : Type 0} (a : Slots R) (slot : ℕ) (rec : R) (list : ℕ) → IsSound a → slot < count a → 1 < home a slot
+    → 2 ≤ list → list < length a.lists → IsSound (replaced a slot rec list)
 IsSound-replaced a slot rec list s low live live_list list_low =
     IsSound-shifted (rewritten a slot rec) slot list (IsSound-rewritten a slot rec s low live) low live live_list list_low
 
@@ -228,7 +241,8 @@ rest_of-low a slot s =
 pub IsSound-retired : {R : Type 0} (a : Slots R) (slot : ℕ) → IsSound a → slot < count a → IsSound (retired a slot)
 IsSound-retired a slot s low =
     let list_low : rest_of a slot < length a.lists = rest_of-low a slot s in
-    let keeps : KeepsTheRest slot (rest_of a slot) a.lists (moved_back slot (rest_of a slot) a.lists) = KeepsTheRest-back slot (rest_of a slot) a.lists list_low in
+    let keeps : KeepsTheRest slot (rest_of a slot) a.lists (moved_back slot (rest_of a slot) a.lists) =
+    KeepsTheRest-back slot (rest_of a slot) a.lists list_low in
     let was : IsSoundSlot a.wear (generation_of a slot) (weight_of a slot) (record_in a slot) (home a slot) = s.slots slot low in
     let weighs : weight_of (retired a slot) slot ≡ 0 = get_or-set_same a.weights slot 0 0 (omega (arith, s.weights_len)) in
     let found : record_in (retired a slot) slot ≡ None = get_or-set_same a.records slot None None (subst (λ z. slot < z) (sym s.records_len) low) in

@@ -13,7 +13,8 @@ sum_to-same f g (suc n) same =
     let below : sum_to f n ≡ sum_to g n = sum_to-same f g n (λ i low. same i (omega arith)) in
     omega (arith, here, below)
 
-pub sum_to-put : {A : Type 0} (g : A → ℕ) (f : ℕ → A) (slot : ℕ) (value : A) (n : ℕ) → slot < n → sum_to (λ i. g (put f slot value i)) n + g (f slot) ≡ sum_to (λ i. g (f i)) n + g value
+pub sum_to-put : {A : Type 0} (g : A → ℕ) (f : ℕ → A) (slot : ℕ) (value : A) (n : ℕ) → slot < n
+    → sum_to (λ i. g (put f slot value i)) n + g (f slot) ≡ sum_to (λ i. g (f i)) n + g value
 sum_to-put g f slot value zero low = absurd (omega (arith, low))
 sum_to-put g f slot value (suc n) low =
     elim (cases_eq n slot) [
@@ -25,7 +26,8 @@ sum_to-put g f slot value (suc n) low =
           omega (arith, here, was, below)
       | inr ne ↦
           let here : g (put f slot value n) ≡ g (f n) = ap g (ap (λ b. cond b value (f n)) (ne_eqb n slot ne)) in
-          let below : sum_to (λ i. g (put f slot value i)) n + g (f slot) ≡ sum_to (λ i. g (f i)) n + g value = sum_to-put g f slot value n (omega (arith, low, ne)) in
+          let below : sum_to (λ i. g (put f slot value i)) n + g (f slot) ≡ sum_to (λ i. g (f i)) n + g value =
+          sum_to-put g f slot value n (omega (arith, low, ne)) in
           omega (arith, here, below)
     ]
 

@@ -21,7 +21,8 @@ map-reverse f (x ∷ rest) =
     ∙ sym (reverse-append (f x ∷ []) (map f rest))
 
 -- a step of a walk keeps what holds of each element that is left
-pub All-step : {X : Type 0} (P : X → Type 0) (old new : List X) (r : Option X) → MatchOption r ((old ≡ []) × (new ≡ [])) (λ x. old ≡ x ∷ new) → All P old → All P new
+pub All-step : {X : Type 0} (P : X → Type 0) (old new : List X) (r : Option X)
+    → MatchOption r ((old ≡ []) × (new ≡ [])) (λ x. old ≡ x ∷ new) → All P old → All P new
 All-step P old new None steps all = subst (All P) (sym steps.1) (All-nil P)
 All-step P old new (Some x) steps all = All-rest P x new old steps all
 

@@ -1,4 +1,5 @@
-ghost use Rattle.std.specs.Prelude.{◌≡◌, ◌+◌, ◌*◌, ◌^◌, ◌<◌, ◌≤◌, ◌==◌, ◌&&◌, length, nat_lt, Some, is_ok, is_err, is_none, IfOk, IfErr, OnOk, OnErr, None, replicate, reverse, if◌then◌else◌, true};
+ghost use Rattle.std.specs.Prelude.{◌≡◌, ◌+◌, ◌*◌, ◌^◌, ◌<◌, ◌≤◌, ◌==◌, ◌&&◌, length, nat_lt, Some, is_ok, is_err, is_none, IfOk, IfErr, OnOk, OnErr};
+ghost use Rattle.std.specs.Prelude.{None, replicate, reverse, if◌then◌else◌, true};
 ghost use Rattle.std.specs.Option.{ForSome};
 ghost use Rattle.coll_kinds.specs.Limits.{max_lent};
 ghost use Rattle.coll_lists.specs.Layouts.{sequence};
@@ -252,7 +253,8 @@ impl<R: Drop> Arena<R> {
         ensures err { OnErr result (self.new ≡ self.old) }
         ensures reweighed { OnOk result (self.new ≡ reweighed self.old ticket.slot weight) }
         ensures lent { OnOk result (lent self.new + weight_of self.old ticket.slot ≡ lent self.old + weight) }
-        ensures puts { OnOk result (PutsSlot self.old self.new ticket.slot ticket.generation weight (record_in self.old ticket.slot) (home self.old ticket.slot)) }
+        ensures puts { OnOk result
+            (PutsSlot self.old self.new ticket.slot ticket.generation weight (record_in self.old ticket.slot) (home self.old ticket.slot)) }
     {
         if !self.is_live(ticket) {
             return Err(Refusal::Stale);
@@ -273,7 +275,8 @@ impl<R: Drop> Arena<R> {
         ensures err { OnErr result (self.new ≡ self.old) }
         ensures shifted { OnOk result (self.new ≡ shifted self.old ticket.slot (number_of list)) }
         ensures lent { lent self.new ≡ lent self.old }
-        ensures puts { OnOk result (PutsSlot self.old self.new ticket.slot ticket.generation (weight_of self.old ticket.slot) (record_in self.old ticket.slot) (number_of list)) }
+        ensures puts { OnOk result
+            (PutsSlot self.old self.new ticket.slot ticket.generation (weight_of self.old ticket.slot) (record_in self.old ticket.slot) (number_of list)) }
     {
         if !self.is_live(ticket) {
             return Err(Refusal::Stale);
@@ -291,7 +294,8 @@ impl<R: Drop> Arena<R> {
         ensures err { OnErr result (self.new ≡ self.old) }
         ensures shifted { OnOk result (self.new ≡ shifted_front self.old ticket.slot (number_of list)) }
         ensures lent { lent self.new ≡ lent self.old }
-        ensures puts { OnOk result (PutsSlot self.old self.new ticket.slot ticket.generation (weight_of self.old ticket.slot) (record_in self.old ticket.slot) (number_of list)) }
+        ensures puts { OnOk result
+            (PutsSlot self.old self.new ticket.slot ticket.generation (weight_of self.old ticket.slot) (record_in self.old ticket.slot) (number_of list)) }
     {
         if !self.is_live(ticket) {
             return Err(Refusal::Stale);

@@ -41,7 +41,9 @@ pub fn is_well_linked<R: Drop>(arena: &Arena<R>, list: ListName) -> &Columns
 
 /// A record that was written through `get_mut` changes the look-ups of that slot's record alone.
 pub fn writing_puts<R: Drop>(arena: &Arena<R>)
-    ensures { (slot : ℕ) (written : R) → slot < count arena.now → PutsSlot arena.now (rewritten arena.now slot written) slot (generation_of arena.now slot) (weight_of arena.now slot) (Some written) (home arena.now slot) }
+    ensures { (slot : ℕ) (written : R) → slot < count arena.now
+        → PutsSlot arena.now (rewritten arena.now slot written) slot (generation_of arena.now slot) (weight_of arena.now slot)
+        (Some written) (home arena.now slot) }
 {
     arena.check();
 }

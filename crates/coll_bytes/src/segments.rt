@@ -1,4 +1,5 @@
-ghost use Rattle.std.specs.Prelude.{◌≡◌, ℕ, ◌+◌, ◌<◌, ◌≤◌, ◌↔◌, List, [], length, remove, replicate, IfOk, IfSome, IsOk, IsTrue, OnErr, OnOk, vec_capacity, vec_len};
+ghost use Rattle.std.specs.Prelude.{◌≡◌, ℕ, ◌+◌, ◌<◌, ◌≤◌, ◌↔◌, List, [], length, remove, replicate, IfOk, IfSome, IsOk, IsTrue, OnErr, OnOk};
+ghost use Rattle.std.specs.Prelude.{vec_capacity, vec_len};
 ghost use Rattle.smallvec.specs.SmallVec.{HasRoomFor, small_vec_len};
 ghost use Rattle.coll_sched.specs.Regions.{Inside, read_of, written};
 ghost use Rattle.coll_bytes.specs.Laid.{AllInside, Shows, laid};

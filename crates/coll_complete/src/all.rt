@@ -33,8 +33,11 @@ pub fn test_all_on<C: Requests>(
     ensures setting { C.setting core.new ≡ C.setting core.old }
     ensures capacity { vec_capacity out.new ≡ vec_capacity out.old }
     ensures flag { IfOk result (λ flag. flag ≡ not (list_any (is_pending (C.machine core.old)) requests.old)) }
-    ensures unfinished { IfOk result (λ flag. OnFalse flag ((core.new ≡ core.old) × (own.new ≡ own.old) × (requests.new ≡ requests.old) × (out.new ≡ out.old))) }
-    ensures completes { IfOk result (λ flag. OnTrue flag (Pushes out.old.items out.new.items (CompletesBy rank requests.old (C.machine core.old) (λ es. C.Did core.old own.old es core.new own.new)))) }
+    ensures unfinished { IfOk result
+        (λ flag. OnFalse flag ((core.new ≡ core.old) × (own.new ≡ own.old) × (requests.new ≡ requests.old) × (out.new ≡ out.old))) }
+    ensures completes { IfOk result
+        (λ flag. OnTrue flag (Pushes out.old.items out.new.items
+        (CompletesBy rank requests.old (C.machine core.old) (λ es. C.Did core.old own.old es core.new own.new)))) }
     ensures requests { IfOk result (λ flag. OnTrue flag (requests.new ≡ map (left_of (C.machine core.old)) requests.old)) }
 {
     let survey = match Survey::of(core, rank, requests) {

@@ -41,7 +41,8 @@ pub(crate) fn complete_all<C: Requests>(
     requires room { vec_len out.old + length requests.old ≤ vec_capacity out.old }
     ensures setting { C.setting core.new ≡ C.setting core.old }
     ensures capacity { vec_capacity out.new ≡ vec_capacity out.old }
-    ensures completes { Pushes out.old.items out.new.items (CompletesBy rank requests.old (C.machine core.old) (λ es. C.Did core.old own.old es core.new own.new)) }
+    ensures completes { Pushes out.old.items out.new.items
+        (CompletesBy rank requests.old (C.machine core.old) (λ es. C.Did core.old own.old es core.new own.new)) }
     ensures requests { requests.new ≡ map (left_of (C.machine core.old)) requests.old }
 {
     for (position, request) in requests.iter_mut().enumerate() {

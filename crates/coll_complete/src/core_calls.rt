@@ -1,6 +1,7 @@
 //! The completion calls of a core alone, beside which a caller holds nothing.
 
-ghost use Rattle.std.specs.Prelude.{◌≡◌, ◌+◌, ◌<◌, ◌≤◌, [], IfErr, IfNone, IfOk, IfSome, None, OnErr, OnOk, OnSome, is_some, length, map, not, position, slice_index_or, take, vec_capacity, vec_len};
+ghost use Rattle.std.specs.Prelude.{◌≡◌, ◌+◌, ◌<◌, ◌≤◌, [], IfErr, IfNone, IfOk, IfSome, None, OnErr, OnOk, OnSome, is_some, length, map, not};
+ghost use Rattle.std.specs.Prelude.{position, slice_index_or, take, vec_capacity, vec_len};
 ghost use Rattle.std.specs.Bool.{OnFalse, OnTrue};
 ghost use Rattle.std.specs.List.{list_any, zip};
 ghost use Rattle.std.specs.Result.{result_err};
@@ -142,7 +143,8 @@ pub fn test_all(
     ensures capacity { vec_capacity out.new ≡ vec_capacity out.old }
     ensures flag { IfOk result (λ flag. flag ≡ not (list_any (is_pending (seen core.old)) requests.old)) }
     ensures unfinished { IfOk result (λ flag. OnFalse flag ((core.new ≡ core.old) × (requests.new ≡ requests.old) × (out.new ≡ out.old))) }
-    ensures completes { IfOk result (λ flag. OnTrue flag (Pushes out.old.items out.new.items (CompletesDone (setting core.old) rank requests.old (seen core.old) (seen core.new)))) }
+    ensures completes { IfOk result
+        (λ flag. OnTrue flag (Pushes out.old.items out.new.items (CompletesDone (setting core.old) rank requests.old (seen core.old) (seen core.new)))) }
     ensures requests { IfOk result (λ flag. OnTrue flag (requests.new ≡ map (left_of (seen core.old)) requests.old)) }
 {
     test_all_on(core, &mut (), rank, requests, out)
@@ -171,7 +173,8 @@ pub fn test_some(
     ensures undefined { IfOk result (λ count. is_some count ≡ list_any (is_active (seen core.old)) requests.old) }
     ensures inactive { IfOk result (λ count. IfNone count ((core.new ≡ core.old) × (requests.new ≡ requests.old) × (out.new ≡ out.old))) }
     ensures count { IfOk result (λ count. IfSome count (λ n. n ≡ length (done_positions (seen core.old) requests.old))) }
-    ensures completes { IfOk result (λ count. OnSome count (Pushes out.old.items out.new.items (CompletesDone (setting core.old) rank requests.old (seen core.old) (seen core.new)))) }
+    ensures completes { IfOk result
+        (λ count. OnSome count (Pushes out.old.items out.new.items (CompletesDone (setting core.old) rank requests.old (seen core.old) (seen core.new)))) }
     ensures requests { IfOk result (λ count. OnSome count (requests.new ≡ map (left_of (seen core.old)) requests.old)) }
 {
     test_some_on(core, &mut (), rank, requests, out)
@@ -211,8 +214,11 @@ pub fn start_all(
     ensures setting { setting core.new ≡ setting core.old }
     ensures starts { OnOk result (StartsAll (setting core.old) rank (seen core.old) (zip requests.now given.items) (seen core.new)) }
     ensures within { IfErr result (λ halted. halted.at < length requests.now) }
-    ensures before { IfErr result (λ halted. StartsAll (setting core.old) rank (seen core.old) (take halted.at (zip requests.now given.items)) (seen core.new)) }
-    ensures refused { IfErr result (λ halted. RefusesAt (setting core.old) rank (seen core.new) (slice_index_or requests.now halted.at None, slice_index_or given.items halted.at []) halted.why) }
+    ensures before { IfErr result
+        (λ halted. StartsAll (setting core.old) rank (seen core.old) (take halted.at (zip requests.now given.items)) (seen core.new)) }
+    ensures refused { IfErr result
+        (λ halted. RefusesAt (setting core.old) rank (seen core.new)
+        (slice_index_or requests.now halted.at None, slice_index_or given.items halted.at []) halted.why) }
     ensures back { IfErr result (λ halted. halted.back.items ≡ unused halted.at given.items) }
 {
     start_all_on(core, &mut (), rank, requests, given)

@@ -49,7 +49,8 @@ pub trait Requests {
         ensures err { OnErr result ((self.new ≡ self.old) × (own.new ≡ own.old)) }
         ensures setting { setting self.new ≡ setting self.old }
         ensures none { IfOk result (λ found. IsNone found → (self.new ≡ self.old) × (own.new ≡ own.old)) }
-        ensures waits { IfOk result (λ found. IsNone found → MachineStep (setting self.old) (machine self.old) (Retire rank ticket) Nothing (machine self.new)) }
+        ensures waits { IfOk result
+            (λ found. IsNone found → MachineStep (setting self.old) (machine self.old) (Retire rank ticket) Nothing (machine self.new)) }
         ensures completes { IfOk result (λ found. IfSome found (λ outcome. Did self.old own.old (completion rank (Some ticket) outcome) self.new own.new)) };
 
     /// Gives up a persistent request that isn't active.

@@ -34,7 +34,9 @@ pub fn test_some_on<C: Requests>(
     ensures undefined { IfOk result (λ count. is_some count ≡ list_any (is_active (C.machine core.old)) requests.old) }
     ensures inactive { IfOk result (λ count. IfNone count ((core.new ≡ core.old) × (own.new ≡ own.old) × (requests.new ≡ requests.old) × (out.new ≡ out.old))) }
     ensures count { IfOk result (λ count. IfSome count (λ n. n ≡ length (done_positions (C.machine core.old) requests.old))) }
-    ensures completes { IfOk result (λ count. OnSome count (Pushes out.old.items out.new.items (CompletesBy rank requests.old (C.machine core.old) (λ es. C.Did core.old own.old es core.new own.new)))) }
+    ensures completes { IfOk result
+        (λ count. OnSome count (Pushes out.old.items out.new.items
+        (CompletesBy rank requests.old (C.machine core.old) (λ es. C.Did core.old own.old es core.new own.new)))) }
     ensures requests { IfOk result (λ count. OnSome count (requests.new ≡ map (left_of (C.machine core.old)) requests.old)) }
 {
     let survey = match Survey::of(core, rank, requests) {

@@ -59,8 +59,10 @@ pub fn start_all_on<C: Requests>(
     ensures setting { C.setting core.new ≡ C.setting core.old }
     ensures starts { OnOk result (StartsAll (C.setting core.old) rank (C.machine core.old) (zip requests.now given.items) (C.machine core.new)) }
     ensures within { IfErr result (λ halted. halted.at < length requests.now) }
-    ensures before { IfErr result (λ halted. StartsAll (C.setting core.old) rank (C.machine core.old) (take halted.at (zip requests.now given.items)) (C.machine core.new)) }
-    ensures refused { IfErr result (λ halted. DeniesAt (C.Denies core.new) rank (slice_index_or requests.now halted.at None, slice_index_or given.items halted.at []) halted.why) }
+    ensures before { IfErr result
+        (λ halted. StartsAll (C.setting core.old) rank (C.machine core.old) (take halted.at (zip requests.now given.items)) (C.machine core.new)) }
+    ensures refused { IfErr result
+        (λ halted. DeniesAt (C.Denies core.new) rank (slice_index_or requests.now halted.at None, slice_index_or given.items halted.at []) halted.why) }
     ensures back { IfErr result (λ halted. halted.back.items ≡ unused halted.at given.items) }
 {
     for (at, request) in requests.iter().enumerate() {

@@ -86,7 +86,8 @@ impl Long {
 
     /// Returns the combination whose result is awaited.
     pub(crate) fn awaited(&self) -> Option<&Awaited>
-        ensures { IfSome result (λ a. a.now.cell ≡ combination_of a.now.op a.now.ty (read_of self.now.segments.bytes a.now.left) (read_of self.now.segments.bytes a.now.right)) }
+        ensures { IfSome result
+            (λ a. a.now.cell ≡ combination_of a.now.op a.now.ty (read_of self.now.segments.bytes a.now.left) (read_of self.now.segments.bytes a.now.right)) }
     {
         self.awaited.as_ref()
     }

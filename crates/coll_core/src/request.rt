@@ -1,4 +1,5 @@
-ghost use Rattle.std.specs.Prelude.{◌≡◌, ◌≢◌, ◌≤◌, ◌<◌, ◌+◌, ◌^◌, suc, length, take, drop, None, Some, IsTrue, ◌↔◌, IsSome, IfSome, IfOk, IsOkUnless, IfErr, [], is_some};
+ghost use Rattle.std.specs.Prelude.{◌≡◌, ◌≢◌, ◌≤◌, ◌<◌, ◌+◌, ◌^◌, suc, length, take, drop, None, Some, IsTrue, ◌↔◌, IsSome, IfSome, IfOk, IsOkUnless};
+ghost use Rattle.std.specs.Prelude.{IfErr, [], is_some};
 ghost use Rattle.std.specs.Option.{ForSome};
 ghost use Rattle.coll_arena.specs.ListNames.{number_of};
 ghost use Rattle.coll_match.specs.Instances.{mail};

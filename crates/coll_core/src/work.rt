@@ -36,7 +36,8 @@ impl Model for Work {
 
     ghost view = { λ w. record { ticket = w.ticket; round = w.round; index = w.index; op = w.op; ty = w.ty; left = w.left; right = w.right } };
 
-    ghost invariant = { λ w. let piece : Piece = record { ticket = w.ticket; round = w.round; index = w.index; op = w.op; ty = w.ty; left = w.left; right = w.right } in
+    ghost invariant = { λ w. let piece : Piece =
+        record { ticket = w.ticket; round = w.round; index = w.index; op = w.op; ty = w.ty; left = w.left; right = w.right } in
         IsPiece piece × IfSome w.cell (λ cell. cell ≡ result_of piece) };
 }
 

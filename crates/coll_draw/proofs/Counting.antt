@@ -40,7 +40,8 @@ length-combinations (step ∷ steps) =
     let counts = sum_by-cons (λ (s : DrawnAction). cond (is_combine s.action) 1 0) step steps in
     omega arith
 
-bytes-put_arrow : (j r : ℕ) (a : Action) (rest : List Arrow) → sum_by (λ arrow. arrow.len) (cons_option (sent_by j r a) rest) ≡ sent_len a + sum_by (λ arrow. arrow.len) rest
+bytes-put_arrow : (j r : ℕ) (a : Action) (rest : List Arrow)
+    → sum_by (λ arrow. arrow.len) (cons_option (sent_by j r a) rest) ≡ sent_len a + sum_by (λ arrow. arrow.len) rest
 bytes-put_arrow j r (Send to from) rest =
     sum_by-cons (λ (arrow : Arrow). arrow.len) (record { round = j; sender = r; receiver = to; len = from.len }) rest
 bytes-put_arrow j r (Copy from into) rest = omega arith

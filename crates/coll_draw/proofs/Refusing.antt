@@ -7,7 +7,8 @@ use Rattle.coll_kinds.specs.declared.refusal.SignatureFault.{SignatureFault}
 use Rattle.coll_draw.specs.Drawings.{Drawn}
 
 -- a refused signature in the same words
-pub refused : (o : Option SignatureFault) (why : Refusal) → MatchOption o (IsOk {T = Unit {0}} {E = Refusal} (Err why)) (λ cause. IsErrOf {T = Unit {0}} {E = Refusal} (Err why) (BadSignature cause))
+pub refused : (o : Option SignatureFault) (why : Refusal)
+    → MatchOption o (IsOk {T = Unit {0}} {E = Refusal} (Err why)) (λ cause. IsErrOf {T = Unit {0}} {E = Refusal} (Err why) (BadSignature cause))
     → MatchOption o (IsOkUnless {T = Drawn} {E = Refusal} (Err why) NoMemory) (λ cause. IsErrOf {T = Drawn} {E = Refusal} (Err why) (BadSignature cause))
 refused None why h = absurd (false≢true h)
 refused (Some cause) why h =
@@ -16,5 +17,6 @@ refused (Some cause) why h =
     λ k. Err (same k)
 
 -- an accepted one for memory alone
-pub accepted : (o : Option SignatureFault) (made : Result Drawn Refusal) → o ≡ None → IsOkUnless made NoMemory → MatchOption o (IsOkUnless made NoMemory) (λ cause. IsErrOf made (BadSignature cause))
+pub accepted : (o : Option SignatureFault) (made : Result Drawn Refusal) → o ≡ None → IsOkUnless made NoMemory
+    → MatchOption o (IsOkUnless made NoMemory) (λ cause. IsErrOf made (BadSignature cause))
 accepted o made e h = subst (λ x. MatchOption x (IsOkUnless made NoMemory) (λ cause. IsErrOf made (BadSignature cause))) (sym e) h

@@ -1,5 +1,6 @@
 -- Lists over the members and the rounds, as loops make them, and counts over them
-use Rattle.std.proofs.Common.{◌≡◌, ℕ, zero, suc, ◌+◌, Bool, ◌||◌, List, [], ◌∷◌, ◌++◌, refl, sym, ap, ◌∙◌, append_assoc, add-zero, zero-add, add-one, cond, arith}
+use Rattle.std.proofs.Common.{◌≡◌, ℕ, zero, suc, ◌+◌, Bool, ◌||◌, List, [], ◌∷◌, ◌++◌, refl, sym, ap, ◌∙◌, append_assoc, add-zero, zero-add, add-one}
+use Rattle.std.proofs.Common.{cond, arith}
 use Rattle.std.specs.Prelude.{flat_map, count_by}
 use Rattle.std.specs.List.{list_any}
 use Rattle.std.proofs.lemmas.Grind.{flat_map-append}
@@ -20,7 +21,8 @@ members-more k (suc c) =
 -- what a function makes of the numbers below c + 1
 pub flat_map_members-more : {X : Type 0} (f : ℕ → List X) (c : ℕ) → flat_map f (members 0 (c + 1)) ≡ flat_map f (members 0 c) ++ f c
 flat_map_members-more {X} f c =
-    rw members-more (flat_map-append f (members 0 c) ((0 + c) ∷ []) ∙ ap (λ (xs : List X). flat_map f (members 0 c) ++ xs) (append-nil (f (0 + c)) ∙ ap f (zero-add c)))
+    rw members-more (flat_map-append f (members 0 c) ((0 + c) ∷ [])
+    ∙ ap (λ (xs : List X). flat_map f (members 0 c) ++ xs) (append-nil (f (0 + c)) ∙ ap f (zero-add c)))
 
 pub count_by_members-more : (p : ℕ → Bool) (c : ℕ) → count_by p (members 0 (c + 1)) ≡ count_by p (members 0 c) + cond (p c) 1 0
 count_by_members-more p c =
@@ -28,7 +30,8 @@ count_by_members-more p c =
 
 pub list_any_members-more : (p : ℕ → Bool) (c : ℕ) → list_any p (members 0 (c + 1)) ≡ (list_any p (members 0 c) || p c)
 list_any_members-more p c =
-    rw members-more (list_any-append p (members 0 c) ((0 + c) ∷ []) ∙ ap (λ (b : Bool). list_any p (members 0 c) || b) (or-false (p (0 + c)) ∙ ap p (zero-add c)))
+    rw members-more (list_any-append p (members 0 c) ((0 + c) ∷ [])
+    ∙ ap (λ (b : Bool). list_any p (members 0 c) || b) (or-false (p (0 + c)) ∙ ap p (zero-add c)))
 
 -- the same after what stood there before
 pub flat_map_members-push : {X : Type 0} (f : ℕ → List X) (c : ℕ) (before now next : List X) → now ≡ before ++ flat_map f (members 0 c) → next ≡ now ++ f c

@@ -30,9 +30,28 @@ impl Model for Drawing {
 
     ghost Value = { Drawn };
 
-    ghost view = { λ d. record { sig = d.sig; n = d.n; round_count = d.round_count; exchange_count = d.exchange_count; arrows = d.arrows.items; combinations = d.combinations.items; copies = d.copies.items } };
+    ghost view = { λ d. record {
+      sig = d.sig;
+      n = d.n;
+      round_count = d.round_count;
+      exchange_count = d.exchange_count;
+      arrows =
+          d.arrows.items;
+      combinations = d.combinations.items;
+      copies = d.copies.items;
+    } };
 
-    ghost invariant = { λ d. IsDrawing (record { sig = d.sig; n = d.n; round_count = d.round_count; exchange_count = d.exchange_count; arrows = d.arrows.items; combinations = d.combinations.items; copies = d.copies.items }) };
+    ghost invariant = { λ d. IsDrawing
+        (record {
+          sig = d.sig;
+          n = d.n;
+          round_count = d.round_count;
+          exchange_count = d.exchange_count;
+          arrows =
+              d.arrows.items;
+          combinations = d.combinations.items;
+          copies = d.copies.items;
+        }) };
 }
 
 impl Drawing {

@@ -1,5 +1,6 @@
 -- Reading digits from the left.
-use Rattle.std.proofs.Common.{◌≡◌, ℕ, zero, suc, ◌+◌, ◌-◌, ◌*◌, ◌^◌, ◌<◌, ◌≤◌, true, false, List, [], ◌∷◌, length, get_or, take, refl, arith, rules, length-take}
+use Rattle.std.proofs.Common.{◌≡◌, ℕ, zero, suc, ◌+◌, ◌-◌, ◌*◌, ◌^◌, ◌<◌, ◌≤◌, true, false, List, [], ◌∷◌, length, get_or, take, refl, arith, rules}
+use Rattle.std.proofs.Common.{length-take}
 use Rattle.std.specs.Char.{is_ascii_digit, digit_value}
 use Rattle.std.specs.Str.{all_ascii_digits}
 use Rattle.std.specs.Str.Parse.{digits_value, AllDigits}
@@ -19,12 +20,14 @@ digit_value-ascii : (c : ℕ) → is_ascii_digit c ≡ true → (digit_value c <
 digit_value-ascii c h = grind (arith, digit_value_digit)
 
 -- one more digit
-pub digits_value-take_more : (bs : List ℕ) (i : ℕ) → i < length bs → is_ascii_digit (get_or bs i 0) ≡ true → digits_value 10 (take (i + 1) bs) ≡ 10 * digits_value 10 (take i bs) + (get_or bs i 0 - 48)
+pub digits_value-take_more : (bs : List ℕ) (i : ℕ) → i < length bs → is_ascii_digit (get_or bs i 0) ≡ true
+    → digits_value 10 (take (i + 1) bs) ≡ 10 * digits_value 10 (take i bs) + (get_or bs i 0 - 48)
 digits_value-take_more bs i within digit =
     let value = digit_value-ascii (get_or bs i 0) digit in
     omega (arith, digits_value_more 10 bs i within, value.1)
 
-pub AllDigits-take_more : (bs : List ℕ) (i : ℕ) → i < length bs → is_ascii_digit (get_or bs i 0) ≡ true → AllDigits 10 (take i bs) → AllDigits 10 (take (i + 1) bs)
+pub AllDigits-take_more : (bs : List ℕ) (i : ℕ) → i < length bs → is_ascii_digit (get_or bs i 0) ≡ true
+    → AllDigits 10 (take i bs) → AllDigits 10 (take (i + 1) bs)
 AllDigits-take_more bs i within digit so_far = digits_more 10 bs i within so_far (digit_value-ascii (get_or bs i 0) digit).0
 
 -- some other character is among them

@@ -1,5 +1,6 @@
 -- The members of a group, none of them twice.
-use Rattle.std.proofs.Common.{◌≡◌, ℕ, ◌+◌, ◌<◌, ◌≤◌, Bool, true, false, cond, eqb, ltb, List, [], ◌∷◌, ◌++◌, length, get_or, Some, None, refl, ap, ◌∙◌, arith, inl, inr}
+use Rattle.std.proofs.Common.{◌≡◌, ℕ, ◌+◌, ◌<◌, ◌≤◌, Bool, true, false, cond, eqb, ltb, List, [], ◌∷◌, ◌++◌, length, get_or, Some, None, refl, ap}
+use Rattle.std.proofs.Common.{◌∙◌, arith, inl, inr}
 use Rattle.std.specs.List.{list_any, position_or_len, range_with_len}
 use Rattle.std.proofs.lemmas.Bool.{cases_lt, eq-eqb, ne_eqb, ltb-true, or_parts, lt-ltb}
 use Rattle.std.proofs.lemmas.List.{get_or_append_left, length-append}
@@ -36,7 +37,8 @@ member_of-push : (rank : ℕ) (group : List ℕ) (new m : ℕ) → member_of ran
 member_of-push rank group new m e =
     let at = member_of-place rank group m e in
     let short : eqb (position_or_len (λ r. eqb r rank) group) (length group) ≡ false = ne_eqb _ _ (λ same. absurd (omega (arith, at.0, at.1, same))) in
-    let place = position_or_len_push (λ r. eqb r rank) group new ∙ ap (λ b. cond b (length group + cond (eqb new rank) 0 1) (position_or_len (λ r. eqb r rank) group)) short ∙ at.0 in
+    let place = position_or_len_push (λ r. eqb r rank) group new
+    ∙ ap (λ b. cond b (length group + cond (eqb new rank) 0 1) (position_or_len (λ r. eqb r rank) group)) short ∙ at.0 in
     member_of-at rank (group ++ new ∷ []) m place (omega (arith, at.1, length-push group new))
 
 -- and stands last
@@ -44,14 +46,16 @@ member_of-new : (group : List ℕ) (new : ℕ) → is_among new group ≡ false 
 member_of-new group new none =
     let last : eqb (position_or_len (λ r. eqb r new) group) (length group) ≡ true = eq-eqb _ _ (absent new group none) in
     let here : length group + cond (eqb new new) 0 1 ≡ length group = ap (λ b. length group + cond b 0 1) (eq-eqb new new refl) ∙ omega arith in
-    let place = position_or_len_push (λ r. eqb r new) group new ∙ ap (λ b. cond b (length group + cond (eqb new new) 0 1) (position_or_len (λ r. eqb r new) group)) last ∙ here in
+    let place = position_or_len_push (λ r. eqb r new) group new
+    ∙ ap (λ b. cond b (length group + cond (eqb new new) 0 1) (position_or_len (λ r. eqb r new) group)) last ∙ here in
     member_of-at new (group ++ new ∷ []) (length group) place (omega (arith, length-push group new))
 
 -- no members yet
 pub IsGroup-none : (n : ℕ) → IsGroup n []
 IsGroup-none n = record { few = omega arith; below = λ m lt. absurd (omega arith); found = λ m lt. absurd (omega arith) }
 
-pub IsGroup-push : (n : ℕ) (group : List ℕ) (new : ℕ) → IsGroup n group → new < n → is_among new group ≡ false → length group < 64 → IsGroup n (group ++ new ∷ [])
+pub IsGroup-push : (n : ℕ) (group : List ℕ) (new : ℕ) → IsGroup n group → new < n → is_among new group ≡ false
+    → length group < 64 → IsGroup n (group ++ new ∷ [])
 IsGroup-push n group new is lt none room = record {
   few = omega (arith, length-push group new);
   below = λ m within. elim (cases_lt m (length group)) [

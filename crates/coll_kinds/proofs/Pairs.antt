@@ -31,19 +31,22 @@ some_there (Some z) n e = (z, refl, cc)
 pub pair-no_comma : (word : List ℕ) → comma_of word ≡ None → None ≡ option_map (bits Pair) (pair_of word)
 pair-no_comma word at = rw at refl
 
-pub pair-no_value : (word text : List ℕ) (comma : ℕ) → comma_of word ≡ Some comma → None ≡ bits_in text → text ≡ take comma word → None ≡ option_map (bits Pair) (pair_of word)
+pub pair-no_value : (word text : List ℕ) (comma : ℕ) → comma_of word ≡ Some comma → None ≡ bits_in text → text ≡ take comma word
+    → None ≡ option_map (bits Pair) (pair_of word)
 pair-no_value word text comma at none text_is =
     let there : number_in I32 (take comma word) ≡ None = ap (number_in I32) (sym text_is) ∙ none_there (number_in I32 text) none in
     rw (at, there) refl
 
-pub pair-no_index : (word text rest : List ℕ) (comma value : ℕ) → comma_of word ≡ Some comma → Some value ≡ bits_in text → None ≡ bits_in rest → text ≡ take comma word → rest ≡ drop (comma + 1) word → None ≡ option_map (bits Pair) (pair_of word)
+pub pair-no_index : (word text rest : List ℕ) (comma value : ℕ) → comma_of word ≡ Some comma → Some value ≡ bits_in text
+    → None ≡ bits_in rest → text ≡ take comma word → rest ≡ drop (comma + 1) word → None ≡ option_map (bits Pair) (pair_of word)
 pair-no_index word text rest comma value at some none text_is rest_is =
     let first = some_there (number_in I32 text) value some in
     let there : number_in I32 (take comma word) ≡ Some first.0 = ap (number_in I32) (sym text_is) ∙ first.1 in
     let behind : number_in I32 (drop (comma + 1) word) ≡ None = ap (number_in I32) (sym rest_is) ∙ none_there (number_in I32 rest) none in
     rw (at, there, behind) refl
 
-pub pair-read : (word text rest : List ℕ) (comma value index : ℕ) → comma_of word ≡ Some comma → Some value ≡ bits_in text → Some index ≡ bits_in rest → text ≡ take comma word → rest ≡ drop (comma + 1) word → Some (value + 2 ^ 32 * index) ≡ option_map (bits Pair) (pair_of word)
+pub pair-read : (word text rest : List ℕ) (comma value index : ℕ) → comma_of word ≡ Some comma → Some value ≡ bits_in text
+    → Some index ≡ bits_in rest → text ≡ take comma word → rest ≡ drop (comma + 1) word → Some (value + 2 ^ 32 * index) ≡ option_map (bits Pair) (pair_of word)
 pair-read word text rest comma value index at some more text_is rest_is =
     let first = some_there (number_in I32 text) value some in
     let second = some_there (number_in I32 rest) index more in
@@ -66,7 +69,8 @@ drop-zeros Byte = refl
 drop-zeros Pair = refl
 
 -- the bytes of an element, of its bits
-pub padded-bits : (ty : Datatype) (o : Option Element) (n : ℕ) → Some n ≡ option_map (bits ty) o → Some (little_bytes (width ty) n ++ replicate (8 - width ty) 0) ≡ option_map (padded_bytes ty) o
+pub padded-bits : (ty : Datatype) (o : Option Element) (n : ℕ) → Some n ≡ option_map (bits ty) o
+    → Some (little_bytes (width ty) n ++ replicate (8 - width ty) 0) ≡ option_map (padded_bytes ty) o
 padded-bits ty None n e = cc
 padded-bits ty (Some x) n e = let same : n ≡ bits ty x = cc in ap (λ m. Some (little_bytes (width ty) m ++ replicate (8 - width ty) 0)) same
 

@@ -8,7 +8,8 @@ use Rattle.coll_kinds.specs.declared.datatype.Datatype.TheVariants.{I8, I16, I32
 use Rattle.coll_kinds.specs.declared.operation.Op.{Op}
 use Rattle.coll_kinds.specs.declared.operation.Op.TheVariants.{Max, Min, Sum, Prod, Land, Lor, Lxor, Band, Bor, Bxor, LastNz, MaxLoc, MinLoc}
 use Rattle.coll_kinds.specs.declared.kind.Kind.{Kind}
-use Rattle.coll_kinds.specs.declared.kind.Kind.TheVariants.{Barrier, Bcast, Gather, Scatter, Allgather, Allgatherv, Alltoall, Reduce, Allreduce, Rsblock, Scan, Exscan}
+use Rattle.coll_kinds.specs.declared.kind.Kind.TheVariants.{Barrier, Bcast, Gather, Scatter, Allgather, Allgatherv, Alltoall, Reduce, Allreduce}
+use Rattle.coll_kinds.specs.declared.kind.Kind.TheVariants.{Rsblock, Scan, Exscan}
 use Rattle.coll_kinds.specs.declared.kind.Mode.{Mode}
 use Rattle.coll_kinds.specs.declared.kind.Mode.TheVariants.{Once, Persistent}
 use Rattle.coll_kinds.specs.declared.signature.Signature.{Signature}
@@ -155,7 +156,9 @@ same_counts-self (Some counts) = same_numbers-self counts
 
 same_signature-self : (a : Signature) → same_signature a a ≡ true
 same_signature-self a =
-    both_true (both_true (both_true (both_true (both_true (both_true (eqb-self (kind_number a.kind)) (eqb-self (mode_number a.mode))) (eqb-self a.root)) (eqb-self (operation_number a.op))) (eqb-self (datatype_number a.ty))) (eqb-self a.count)) (same_counts-self a.each)
+    both_true (both_true (both_true (both_true (both_true
+    (both_true (eqb-self (kind_number a.kind)) (eqb-self (mode_number a.mode))) (eqb-self a.root)) (eqb-self (operation_number a.op)))
+    (eqb-self (datatype_number a.ty))) (eqb-self a.count)) (same_counts-self a.each)
 
 pub same_signature-Decides : (a b : Signature) → Decides (same_signature a b) (a ≡ b)
 same_signature-Decides a b = (same_signature-equal a b, λ e. subst (λ c. same_signature a c ≡ true) e (same_signature-self a))

@@ -1,6 +1,7 @@
 -- Elements (MPI 4.1, 3.2.2 and 6.9.4): a whole number in its type's range, or a pair of two, the value and its index; and
 -- their bytes, little-endian in two's complement.
-use Rattle.std.specs.Prelude.{ℕ, ◌<◌, ◌+◌, ◌*◌, ◌-◌, ◌/◌, ◌%◌, ◌^◌, Bool, true, false, not, ◌&&◌, ℤ, pos, negsuc, nat_lt, List, IsTrue, slice_index, if◌then◌else◌}
+use Rattle.std.specs.Prelude.{ℕ, ◌<◌, ◌+◌, ◌*◌, ◌-◌, ◌/◌, ◌%◌, ◌^◌, Bool, true, false, not, ◌&&◌, ℤ, pos, negsuc, nat_lt, List, IsTrue, slice_index}
+use Rattle.std.specs.Prelude.{if◌then◌else◌}
 use Rattle.std.specs.Int.{Width, w8, w16, w32, w64, cast_unsigned, cast_signed}
 use Rattle.byteorder.specs.Endian.{little_number, little_bytes}
 use Rattle.coll_kinds.specs.declared.datatype.Datatype.{Datatype}

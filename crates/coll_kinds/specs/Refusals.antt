@@ -2,7 +2,9 @@
 use Rattle.std.specs.Prelude.{ℕ}
 use Rattle.coll_kinds.specs.declared.signature.Signature.{Signature}
 use Rattle.coll_kinds.specs.declared.refusal.Refusal.{Refusal}
-use Rattle.coll_kinds.specs.declared.refusal.Refusal.TheVariants.{BadComm, NotMember, BadSignature, BadLength, Mismatch, Stale, NotYours, Active, NotPersistent, PlacesUsed, StartsUsed, Full, TraceFull, Stalled, StillActive, Torn, NoMemory, BadConfig}
+use Rattle.coll_kinds.specs.declared.refusal.Refusal.TheVariants.{BadComm, NotMember, BadSignature, BadLength, Mismatch, Stale, NotYours, Active}
+use Rattle.coll_kinds.specs.declared.refusal.Refusal.TheVariants.{NotPersistent, PlacesUsed, StartsUsed, Full, TraceFull, Stalled, StillActive, Torn}
+use Rattle.coll_kinds.specs.declared.refusal.Refusal.TheVariants.{NoMemory, BadConfig}
 
 abbrev pub number_of : Refusal → ℕ
 number_of (BadComm comm) = 1

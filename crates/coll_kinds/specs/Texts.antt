@@ -1,5 +1,6 @@
 -- The decimal text of numbers and elements.
-use Rattle.std.specs.Prelude.{ℕ, ◌+◌, ◌-◌, ◌==◌, Bool, ◌&&◌, ℤ, pos, neg_ℤ, nat_le, List, ◌∷◌, ◌++◌, Option, Some, None, length, take, drop, slice_index, replicate, option_and_then, if◌then◌else◌}
+use Rattle.std.specs.Prelude.{ℕ, ◌+◌, ◌-◌, ◌==◌, Bool, ◌&&◌, ℤ, pos, neg_ℤ, nat_le, List, ◌∷◌, ◌++◌, Option, Some, None, length, take, drop}
+use Rattle.std.specs.Prelude.{slice_index, replicate, option_and_then, if◌then◌else◌}
 use Rattle.std.specs.Option.{option_map}
 use Rattle.std.specs.Str.{all_ascii_digits}
 use Rattle.std.specs.Str.Parse.{digits_value}

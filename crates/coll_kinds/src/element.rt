@@ -1,4 +1,5 @@
-ghost use Rattle.std.specs.Prelude.{◌≡◌, ◌≤◌, ◌<◌, ◌++◌, ◌==◌, ◌^◌, ℤ, pos, neg_ℤ, length, take, drop, OnOk, OnErr, IfSome, IsOkUnless, Some, None, if◌then◌else◌};
+ghost use Rattle.std.specs.Prelude.{◌≡◌, ◌≤◌, ◌<◌, ◌++◌, ◌==◌, ◌^◌, ℤ, pos, neg_ℤ, length, take, drop, OnOk, OnErr, IfSome, IsOkUnless, Some, None};
+ghost use Rattle.std.specs.Prelude.{if◌then◌else◌};
 ghost use Rattle.std.specs.Option.{option_map};
 ghost use Rattle.std.specs.List.{position};
 ghost use Rattle.std.specs.Int.{cast_unsigned};

@@ -1,5 +1,6 @@
 -- A move as the code makes it: unlink, find the neighbours, link, enter.
-use Rattle.std.proofs.Common.{◌≡◌, ℕ, zero, suc, ◌+◌, ◌-◌, ◌<◌, ◌≤◌, ◌^◌, List, [], ◌∷◌, length, set, sym, ap, subst, ◌∙◌, ◌⊎◌, inl, inr, get_or, slice_index, arith, length-append}
+use Rattle.std.proofs.Common.{◌≡◌, ℕ, zero, suc, ◌+◌, ◌-◌, ◌<◌, ◌≤◌, ◌^◌, List, [], ◌∷◌, length, set, sym, ap, subst, ◌∙◌, ◌⊎◌, inl, inr, get_or}
+use Rattle.std.proofs.Common.{slice_index, arith, length-append}
 use Rattle.std.proofs.lemmas.Bool.{cases_eq}
 use Rattle.std.proofs.lemmas.List.{get_or_read, length-set}
 use Rattle.std.specs.List.{concat}
@@ -38,7 +39,8 @@ Roomy-shown next prev list len K L s e x l low l_in =
     let l_low : l < length len = list_in next prev list len K L s e l l_in in
     let home : slice_index list x < length len = s.within x x_low in
     let once : times x (sequence K (slice_index list x)) ≡ 1 = times-here next prev list len K s x x_low in
-    let out : length (taken_out x (sequence K (slice_index list x))) + times x (sequence K (slice_index list x)) ≡ length (sequence K (slice_index list x)) = length-taken_out x (sequence K (slice_index list x)) in
+    let out : length (taken_out x (sequence K (slice_index list x))) + times x (sequence K (slice_index list x)) ≡ length (sequence K (slice_index list x)) =
+    length-taken_out x (sequence K (slice_index list x)) in
     let counted : slice_index len (slice_index list x) ≡ length (sequence K (slice_index list x)) = s.counted (slice_index list x) home in
     let counted_l : slice_index len l ≡ length (sequence K l) = s.counted l l_low in
     let all : size K ≡ length list = size-shown next prev list len K s in
@@ -51,11 +53,13 @@ Roomy-shown next prev list len K L s e x l low l_in =
       some = omega arith;
       room = elim (cases_eq l (slice_index list x)) [
         | inl f ↦
-            let is : slice_index (set len (slice_index list x) (slice_index len (slice_index list x) - 1)) l ≡ slice_index len (slice_index list x) - 1 = ap (slice_index _) f ∙ at_set len (slice_index list x) _ home in
+            let is : slice_index (set len (slice_index list x) (slice_index len (slice_index list x) - 1)) l ≡ slice_index len (slice_index list x) - 1 =
+            ap (slice_index _) f ∙ at_set len (slice_index list x) _ home in
             let same : slice_index len l ≡ slice_index len (slice_index list x) = ap (slice_index len) f in
             omega arith
         | inr ne ↦
-            let is : slice_index (set len (slice_index list x) (slice_index len (slice_index list x) - 1)) l ≡ slice_index len l = off_set len (slice_index list x) _ l ne in
+            let is : slice_index (set len (slice_index list x) (slice_index len (slice_index list x) - 1)) l ≡ slice_index len l =
+            off_set len (slice_index list x) _ l ne in
             omega arith
       ];
     }
@@ -107,7 +111,8 @@ module _ (next prev list len : List ℕ) (K L : Layout) (s : Shows next prev lis
       let p : length prev ≡ length list + length len = s.prev_len in
       omega arith
 
-  module _ (before behind head left : ℕ) (before_is : before ≡ get_or prev x before) (behind_is : behind ≡ get_or next x behind) (head_is : head ≡ length list + l) where
+  module _ (before behind head left : ℕ) (before_is : before ≡ get_or prev x before) (behind_is : behind ≡ get_or next x behind)
+      (head_is : head ≡ length list + l) where
     pub next_out : set next before behind ≡ next_unlinked next prev x
     next_out = ap (λ z. set next z behind) (before_at before before_is) ∙ ap (set next (slice_index prev x)) (behind_at behind behind_is)
 
@@ -126,7 +131,9 @@ module _ (next prev list len : List ℕ) (K L : Layout) (s : Shows next prev lis
 
     -- the node on the left is the list's head, or the one before it
     pub last_at : left ≡ get_or (set prev behind before) head left → left ≡ slice_index (prev_unlinked next prev x) (length list + l)
-    last_at is = get_or_read (set prev behind before) head left head_low is 0 ∙ ap (λ z. slice_index z head) prev_out ∙ ap (slice_index (prev_unlinked next prev x)) head_is
+    last_at is =
+        get_or_read (set prev behind before) head left head_low is 0 ∙ ap (λ z. slice_index z head) prev_out
+        ∙ ap (slice_index (prev_unlinked next prev x)) head_is
 
     pub left_low : (left ≡ head) ⊎ (left ≡ get_or (set prev behind before) head left) → left < length next
     left_low is =
@@ -136,14 +143,16 @@ module _ (next prev list len : List ℕ) (K L : Layout) (s : Shows next prev lis
         elim is [
           | inl front ↦ omega (arith, front, head_is)
           | inr back ↦
-              let within : slice_index (prev_unlinked next prev x) (length list + l) < length (prev_unlinked next prev x) = loose.prev_in (length list + l) (omega arith) in
+              let within : slice_index (prev_unlinked next prev x) (length list + l) < length (prev_unlinked next prev x) =
+              loose.prev_in (length list + l) (omega arith) in
               let read : left ≡ slice_index (prev_unlinked next prev x) (length list + l) = last_at back in
               omega arith
         ]
 
     pub right_at : (right : ℕ) → left < length next → right ≡ get_or (set next before behind) left right → right ≡ slice_index (next_unlinked next prev x) left
     right_at right left_in is =
-        get_or_read (set next before behind) left right (subst (λ z. left < z) (sym (length-set next before behind)) left_in) is 0 ∙ ap (λ z. slice_index z left) next_out
+        get_or_read (set next before behind) left right (subst (λ z. left < z) (sym (length-set next before behind)) left_in) is 0
+        ∙ ap (λ z. slice_index z left) next_out
 
     module _ (right : ℕ) (right_is : right ≡ get_or (set next before behind) left right) (next3 prev3 list3 len3 : List ℕ)
         (next3_is : next3 ≡ set (set (set next before behind) left x) x right) (prev3_is : prev3 ≡ set (set (set prev behind before) x left) right x)
@@ -151,9 +160,11 @@ module _ (next prev list len : List ℕ) (K L : Layout) (s : Shows next prev lis
       pub moves_back : left ≡ get_or (set prev behind before) head left → Shows next3 prev3 list3 len3 (moved_back x l L)
       moves_back back =
           let at : left ≡ slice_index (prev_unlinked next prev x) (length list + l) = last_at back in
-          let ring : Joined (slice_index (next_unlinked next prev x)) (slice_index (prev_unlinked next prev x)) (length list + l) (taken_out x (sequence K l)) (length list + l) = loose.joined l list_low in
+          let ring : Joined (slice_index (next_unlinked next prev x)) (slice_index (prev_unlinked next prev x)) (length list + l)
+          (taken_out x (sequence K l)) (length list + l) = loose.joined l list_low in
           let right_head : right ≡ length list + l =
-          right_at right (left_low (inr back)) right_is ∙ ap (slice_index (next_unlinked next prev x)) at ∙ next-prev-to _ _ (length list + l) (taken_out x (sequence K l)) (length list + l) ring in
+          right_at right (left_low (inr back)) right_is ∙ ap (slice_index (next_unlinked next prev x)) at
+          ∙ next-prev-to _ _ (length list + l) (taken_out x (sequence K l)) (length list + l) ring in
           subst (λ z. Shows next3 prev3 list3 len3 (moved_back x l z)) e
           (subst (λ z. Shows next3 prev3 z len3 (moved_back x l K)) (sym list3_is)
           (subst (λ z. Shows next3 prev3 (set list x l) z (moved_back x l K)) (sym len3_is)

@@ -7,7 +7,8 @@ use Rattle.coll_lists.specs.Keeping.{KeepsTheRest}
 use Rattle.coll_lists.specs.Layouts.{IsLawful, Layout, list_of, sequence, times}
 use Rattle.coll_lists.specs.Moves.{moved_back, moved_front, taken_out, without}
 use Rattle.coll_lists.proofs.Lawful.{IsLawful-moved_back, IsLawful-moved_front, list_of-first}
-use Rattle.coll_lists.proofs.Occurrences.{Moved, Moved-back, Moved-front, sequence-moved_back, sequence-moved_front, sequence-without, times-taken_out, times-taken_out-other}
+use Rattle.coll_lists.proofs.Occurrences.{Moved, Moved-back, Moved-front, sequence-moved_back, sequence-moved_front, sequence-without}
+use Rattle.coll_lists.proofs.Occurrences.{times-taken_out, times-taken_out-other}
 use Rattle.coll_lists.proofs.Rings.{taken_out-other, taken_out-same}
 
 -- taking a node out twice is taking it out once
@@ -21,7 +22,8 @@ taken_out-taken_out x (y ∷ rest) =
     ]
 
 -- lists on which a node stands equally often have it first at the same place
-pub list_of-same : (z : ℕ) (K L : Layout) → length K ≡ length L → ((k : ℕ) → k < length L → times z (sequence K k) ≡ times z (sequence L k)) → list_of K z ≡ list_of L z
+pub list_of-same : (z : ℕ) (K L : Layout) → length K ≡ length L
+    → ((k : ℕ) → k < length L → times z (sequence K k) ≡ times z (sequence L k)) → list_of K z ≡ list_of L z
 list_of-same z [] [] e same = refl
 list_of-same z [] (t ∷ ts) e same = absurd (omega (arith, e))
 list_of-same z (s ∷ ss) [] e same = absurd (omega (arith, e))

@@ -1,5 +1,6 @@
 -- Lawful layouts: how many nodes there are, the list that a node stands on, and what a move keeps of both.
-use Rattle.std.proofs.Common.{◌≡◌, ◌≢◌, ℕ, zero, suc, ◌+◌, ◌<◌, ◌≤◌, cond, List, [], ◌∷◌, ◌++◌, length, eqb, ltb, sym, refl, ap, subst, ◌∙◌, inl, inr, eq-eqb, ne_eqb, lt-ltb, le-ltb, set, arith, zero-add, add-zero, add-one, suc-ne-zero}
+use Rattle.std.proofs.Common.{◌≡◌, ◌≢◌, ℕ, zero, suc, ◌+◌, ◌<◌, ◌≤◌, cond, List, [], ◌∷◌, ◌++◌, length, eqb, ltb, sym, refl, ap, subst, ◌∙◌, inl, inr}
+use Rattle.std.proofs.Common.{eq-eqb, ne_eqb, lt-ltb, le-ltb, set, arith, zero-add, add-zero, add-one, suc-ne-zero}
 use Rattle.std.proofs.lemmas.Bool.{cases_eq, cases_lt}
 use Rattle.std.proofs.lemmas.List.{length-map}
 use Rattle.std.specs.List.{concat}
@@ -16,7 +17,8 @@ times-concat_none x (s ∷ rest) none =
     ∙ times-concat_none x rest (λ l low. none (suc l) (omega arith))
 
 -- a node that stands once, on one list
-pub times-concat_once : (x : ℕ) (L : Layout) (h : ℕ) → h < length L → times x (sequence L h) ≡ 1 → ((l : ℕ) → l < length L → l ≢ h → times x (sequence L l) ≡ 0) → times x (concat L) ≡ 1
+pub times-concat_once : (x : ℕ) (L : Layout) (h : ℕ) → h < length L → times x (sequence L h) ≡ 1
+    → ((l : ℕ) → l < length L → l ≢ h → times x (sequence L l) ≡ 0) → times x (concat L) ≡ 1
 times-concat_once x [] h low here none = absurd (omega (arith, low))
 times-concat_once x (s ∷ rest) zero low here none =
     times-append x s (concat rest)
@@ -79,7 +81,8 @@ total-eqb y zero low = absurd (omega (arith, low))
 total-eqb y (suc n) low =
     elim (cases_eq y n) [
       | inl e ↦
-          let before : total (λ i. cond (eqb y i) 1 0) n ≡ total (λ _. 0) n = total-same _ _ n (λ i i_low. ap (λ t. cond t 1 0) (ne_eqb y i (λ f. absurd (omega (arith, f))))) in
+          let before : total (λ i. cond (eqb y i) 1 0) n ≡ total (λ _. 0) n =
+          total-same _ _ n (λ i i_low. ap (λ t. cond t 1 0) (ne_eqb y i (λ f. absurd (omega (arith, f))))) in
           let none : total (λ _. 0) n ≡ 0 = total-zero n in
           ap (λ t. total (λ i. cond (eqb y i) 1 0) n + cond t 1 0) (eq-eqb y n e) ∙ omega (arith, before, none)
       | inr ne ↦
@@ -93,9 +96,11 @@ length-total [] n none = total-zero n
 length-total (y ∷ rest) n none =
     elim (cases_lt y n) [
       | inl low ↦
-          let split : total (λ x. cond (eqb y x) 1 0 + times x rest) n ≡ total (λ x. cond (eqb y x) 1 0) n + total (λ x. times x rest) n = total-add (λ x. cond (eqb y x) 1 0) (λ x. times x rest) n in
+          let split : total (λ x. cond (eqb y x) 1 0 + times x rest) n ≡ total (λ x. cond (eqb y x) 1 0) n + total (λ x. times x rest) n =
+          total-add (λ x. cond (eqb y x) 1 0) (λ x. times x rest) n in
           let one : total (λ x. cond (eqb y x) 1 0) n ≡ 1 = total-eqb y n low in
-          let more : total (λ x. times x rest) n ≡ length rest = length-total rest n (λ x high. sym (times-other x y rest (λ e. absurd (omega (arith, e)))) ∙ none x high) in
+          let more : total (λ x. times x rest) n ≡ length rest =
+          length-total rest n (λ x high. sym (times-other x y rest (λ e. absurd (omega (arith, e)))) ∙ none x high) in
           omega arith
       | inr high ↦ absurd (suc-ne-zero (times y rest) (sym (times-same y y rest refl) ∙ none y high))
     ]
@@ -124,7 +129,8 @@ times-concat_without-same x (s ∷ rest) =
     ∙ times-concat_without-same x rest
 
 -- one list written anew
-pub times-concat_set : (z : ℕ) (L : Layout) (l : ℕ) (t : List ℕ) → l < length L → times z (concat (set L l t)) + times z (sequence L l) ≡ times z (concat L) + times z t
+pub times-concat_set : (z : ℕ) (L : Layout) (l : ℕ) (t : List ℕ) → l < length L
+    → times z (concat (set L l t)) + times z (sequence L l) ≡ times z (concat L) + times z t
 times-concat_set z [] l t low = absurd (omega (arith, low))
 times-concat_set z (s ∷ rest) zero t low =
     let new : times z (t ++ concat rest) ≡ times z t + times z (concat rest) = times-append z t (concat rest) in
@@ -142,11 +148,13 @@ pub IsLawful-put : (n : ℕ) (L : Layout) → IsLawful n L → (x l : ℕ) → x
     IsLawful n (set (without x L) l t)
 IsLawful-put n L lawful x l x_low l_low t again kept z =
     let low : l < length (without x L) = subst (λ k. l < k) (sym (length-map L (taken_out x))) l_low in
-    let parts : times z (concat (set (without x L) l t)) + times z (sequence (without x L) l) ≡ times z (concat (without x L)) + times z t = times-concat_set z (without x L) l t low in
+    let parts : times z (concat (set (without x L) l t)) + times z (sequence (without x L) l) ≡ times z (concat (without x L)) + times z t =
+    times-concat_set z (without x L) l t low in
     elim (cases_eq z x) [
       | inl e ↦
           let none : times z (concat (without x L)) ≡ 0 = ap (λ k. times k (concat (without x L))) e ∙ times-concat_without-same x L in
-          let one : times z t ≡ suc (times z (sequence (without x L) l)) = ap (λ k. times k t) e ∙ again ∙ ap (λ k. suc (times k (sequence (without x L) l))) (sym e) in
+          let one : times z t ≡ suc (times z (sequence (without x L) l)) =
+          ap (λ k. times k t) e ∙ again ∙ ap (λ k. suc (times k (sequence (without x L) l))) (sym e) in
           let once : times z (concat (set (without x L) l t)) ≡ 1 = omega arith in
           once ∙ sym (ap (λ b. cond b 1 0) (lt-ltb z n (omega (arith, e))))
       | inr ne ↦
@@ -161,7 +169,8 @@ IsLawful-moved_back n L lawful x l x_low l_low =
     let S : List ℕ = sequence (without x L) l in
     IsLawful-put n L lawful x l x_low l_low (sequence (without x L) l ++ x ∷ [])
     (times-append x (sequence (without x L) l) (x ∷ []) ∙ ap (λ k. times x (sequence (without x L) l) + k) (times-same x x [] refl) ∙ add-one _)
-    (λ z ne. times-append z (sequence (without x L) l) (x ∷ []) ∙ ap (λ k. times z (sequence (without x L) l) + k) (times-other z x [] (λ e. ne (sym e))) ∙ add-zero _)
+    (λ z ne. times-append z (sequence (without x L) l) (x ∷ [])
+    ∙ ap (λ k. times z (sequence (without x L) l) + k) (times-other z x [] (λ e. ne (sym e))) ∙ add-zero _)
 
 pub IsLawful-moved_front : (n : ℕ) (L : Layout) → IsLawful n L → (x l : ℕ) → x < n → l < length L → IsLawful n (moved_front x l L)
 IsLawful-moved_front n L lawful x l x_low l_low =

@@ -1,5 +1,6 @@
 -- How often a node stands in a sequence, and the sequences after a move.
-use Rattle.std.proofs.Common.{◌≡◌, ◌≢◌, ℕ, suc, ◌+◌, ◌<◌, cond, List, [], ◌∷◌, ◌++◌, length, eqb, sym, refl, ap, subst, ◌∙◌, inl, inr, eq-eqb, ne_eqb, arith, zero-add, add_assoc, add-zero, add-one, suc-ne-zero, length-append}
+use Rattle.std.proofs.Common.{◌≡◌, ◌≢◌, ℕ, suc, ◌+◌, ◌<◌, cond, List, [], ◌∷◌, ◌++◌, length, eqb, sym, refl, ap, subst, ◌∙◌, inl, inr, eq-eqb, ne_eqb}
+use Rattle.std.proofs.Common.{arith, zero-add, add_assoc, add-zero, add-one, suc-ne-zero, length-append}
 use Rattle.std.proofs.Math.ListN.{get_or-map}
 use Rattle.std.proofs.lemmas.Bool.{cases_eq}
 use Rattle.std.proofs.lemmas.List.{get_or-set_same, get_or-set_other, length-set, length-map}

@@ -1,5 +1,6 @@
 -- The columns that `new` makes show all nodes on list 0.
-use Rattle.std.proofs.Common.{◌≡◌, ℕ, zero, suc, ◌+◌, ◌-◌, ◌<◌, ◌≤◌, ◌^◌, ◌&&◌, cond, List, [], ◌∷◌, length, eqb, ltb, sym, refl, ap, subst, ◌∙◌, inl, inr, eq-eqb, ne_eqb, lt-ltb, le-ltb, set, slice_index, replicate, arith, zero-add, add-zero}
+use Rattle.std.proofs.Common.{◌≡◌, ℕ, zero, suc, ◌+◌, ◌-◌, ◌<◌, ◌≤◌, ◌^◌, ◌&&◌, cond, List, [], ◌∷◌, length, eqb, ltb, sym, refl, ap, subst, ◌∙◌, inl}
+use Rattle.std.proofs.Common.{inr, eq-eqb, ne_eqb, lt-ltb, le-ltb, set, slice_index, replicate, arith, zero-add, add-zero}
 use Rattle.std.proofs.lemmas.Bool.{cases_eq, cases_lt}
 use Rattle.std.proofs.lemmas.List.{get_or-replicate, get_or_past, length-replicate, length-set}
 use Rattle.std.proofs.lemmas.List.FromFn.{length-range_with_len}
@@ -34,7 +35,8 @@ pub next_head : (n : ℕ) → opening_next n n ≡ 0
 next_head n = ap (λ b. cond b (n + 1) (cond (eqb n n) 0 n)) (le-ltb n n (omega arith)) ∙ ap (λ b. cond b 0 n) (eq-eqb n n refl)
 
 pub next_high : (n i : ℕ) → n < i → opening_next n i ≡ i
-next_high n i high = ap (λ b. cond b (i + 1) (cond (eqb i n) 0 i)) (le-ltb i n (omega arith)) ∙ ap (λ b. cond b 0 i) (ne_eqb i n (λ e. absurd (omega (arith, e))))
+next_high n i high =
+    ap (λ b. cond b (i + 1) (cond (eqb i n) 0 i)) (le-ltb i n (omega arith)) ∙ ap (λ b. cond b 0 i) (ne_eqb i n (λ e. absurd (omega (arith, e))))
 
 pub prev_low : (n i : ℕ) → i < n → opening_prev n (i + 1) ≡ i
 prev_low n i low =
@@ -53,7 +55,8 @@ pub record Opened (next prev : List ℕ) (n m : ℕ) : Type 0 where
   pub prev_len : length prev ≡ n + m
   pub back : (at : ℕ) → at < n + m → slice_index prev at ≡ opening_prev n at
 
-pub Joined-range : (next prev : List ℕ) (n m : ℕ) → Opened next prev n m → 0 < m → (k a from : ℕ) → a + k ≡ n → slice_index next from ≡ a → slice_index prev a ≡ from → Joined (slice_index next) (slice_index prev) from (range_with_len a k) n
+pub Joined-range : (next prev : List ℕ) (n m : ℕ) → Opened next prev n m → 0 < m → (k a from : ℕ) → a + k ≡ n
+    → slice_index next from ≡ a → slice_index prev a ≡ from → Joined (slice_index next) (slice_index prev) from (range_with_len a k) n
 Joined-range next prev n m o some zero a from end forth back =
     let is : a ≡ n = omega arith in
     (forth ∙ is, ap (slice_index prev) (sym is) ∙ back)
@@ -74,7 +77,8 @@ sequence-opening n m l =
     ]
 
 -- each list's ring, its nodes and its length
-pub joins-opening : (next prev : List ℕ) (n m : ℕ) → Opened next prev n m → 0 < m → (l : ℕ) → l < m → Joined (slice_index next) (slice_index prev) (n + l) (sequence (opening n m) l) (n + l)
+pub joins-opening : (next prev : List ℕ) (n m : ℕ) → Opened next prev n m → 0 < m → (l : ℕ) → l < m
+    → Joined (slice_index next) (slice_index prev) (n + l) (sequence (opening n m) l) (n + l)
 joins-opening next prev n m o some zero low = rw (add-zero)
     (Joined-range next prev n m o some n 0 n (omega arith) (o.forth n (omega arith) ∙ next_head n) (o.back 0 (omega arith)))
 joins-opening next prev n m o some (suc l) low = rw (sequence-opening n m l)
@@ -103,7 +107,8 @@ counts-opening n m (suc l) low =
     off_set (replicate m 0) 0 n (suc l) (λ e. absurd (omega (arith, e))) ∙ get_or-replicate m (suc l) 0 0 low
     ∙ sym (ap length (sequence-opening n m l))
 
-pub Shows-opening : (next prev : List ℕ) (n m : ℕ) → Opened next prev n m → 0 < m → n + m < 2 ^ 32 → Shows next prev (replicate n 0) (set (replicate m 0) 0 n) (opening n m)
+pub Shows-opening : (next prev : List ℕ) (n m : ℕ) → Opened next prev n m → 0 < m → n + m < 2 ^ 32
+    → Shows next prev (replicate n 0) (set (replicate m 0) 0 n) (opening n m)
 Shows-opening next prev n m o some fits =
     let nodes : length (replicate {A = ℕ} n 0) ≡ n = length-replicate {A = ℕ} n 0 in
     let zeros : length (replicate {A = ℕ} m 0) ≡ m = length-replicate {A = ℕ} m 0 in

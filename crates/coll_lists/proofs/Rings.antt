@@ -1,5 +1,6 @@
 -- Linked nodes after one of them is unlinked, and after one is linked in.
-use Rattle.std.proofs.Common.{◌≡◌, ◌<◌, cond, arith, ◌≢◌, ℕ, ◌+◌, not, List, [], ◌∷◌, ◌++◌, length, sym, refl, ap, subst, ◌∙◌, inl, inr, eq-eqb, ne_eqb, slice_index, zero-add}
+use Rattle.std.proofs.Common.{◌≡◌, ◌<◌, cond, arith, ◌≢◌, ℕ, ◌+◌, not, List, [], ◌∷◌, ◌++◌, length, sym, refl, ap, subst, ◌∙◌, inl, inr, eq-eqb}
+use Rattle.std.proofs.Common.{ne_eqb, slice_index, zero-add}
 use Rattle.std.proofs.lemmas.Bool.{cases_eq}
 use Rattle.coll_lists.specs.Columns.{Joined, walk}
 use Rattle.coll_lists.specs.Layouts.{times}
@@ -82,7 +83,8 @@ pub record Inserts (n p : ℕ → ℕ) (l x r : ℕ) (m q : ℕ → ℕ) : Type 
   pub prev_off : (i : ℕ) → i ≢ r → i ≢ x → q i ≡ p i
 
 -- links that don't lead to r stay
-pub before_r : (n p : ℕ → ℕ) (l x r : ℕ) (m q : ℕ → ℕ) → Inserts n p l x r m q → (from : ℕ) (nodes : List ℕ) (to : ℕ) → from ≢ x → to ≢ x → Avoids x nodes → to ≢ r → Avoids r nodes → Joined n p from nodes to → Joined m q from nodes to
+pub before_r : (n p : ℕ → ℕ) (l x r : ℕ) (m q : ℕ → ℕ) → Inserts n p l x r m q → (from : ℕ) (nodes : List ℕ) (to : ℕ) → from ≢ x
+    → to ≢ x → Avoids x nodes → to ≢ r → Avoids r nodes → Joined n p from nodes to → Joined m q from nodes to
 before_r n p l x r m q u from [] to from_x to_x _ to_r _ j =
     (u.next_off from (λ e. to_r (sym j.0 ∙ ap n e ∙ u.was_next)) from_x ∙ j.0, u.prev_off to to_r to_x ∙ j.1)
 before_r n p l x r m q u from (y ∷ rest) to from_x to_x xs to_r rs j = (
@@ -92,7 +94,8 @@ before_r n p l x r m q u from (y ∷ rest) to from_x to_x xs to_r rs j = (
 )
 
 -- links that don't start at l stay
-pub behind_l : (n p : ℕ → ℕ) (l x r : ℕ) (m q : ℕ → ℕ) → Inserts n p l x r m q → (from : ℕ) (nodes : List ℕ) (to : ℕ) → from ≢ x → to ≢ x → Avoids x nodes → from ≢ l → Avoids l nodes → Joined n p from nodes to → Joined m q from nodes to
+pub behind_l : (n p : ℕ → ℕ) (l x r : ℕ) (m q : ℕ → ℕ) → Inserts n p l x r m q → (from : ℕ) (nodes : List ℕ) (to : ℕ) → from ≢ x
+    → to ≢ x → Avoids x nodes → from ≢ l → Avoids l nodes → Joined n p from nodes to → Joined m q from nodes to
 behind_l n p l x r m q u from [] to from_x to_x _ from_l _ j =
     (u.next_off from from_l from_x ∙ j.0, u.prev_off to (λ e. from_l (sym j.1 ∙ ap p e ∙ u.was_prev)) to_x ∙ j.1)
 behind_l n p l x r m q u from (y ∷ rest) to from_x to_x xs from_l ls j = (
@@ -102,7 +105,8 @@ behind_l n p l x r m q u from (y ∷ rest) to from_x to_x xs from_l ls j = (
 )
 
 -- x is the last before r
-pub put_back : (n p : ℕ → ℕ) (l x r : ℕ) (m q : ℕ → ℕ) → Inserts n p l x r m q → (from : ℕ) (nodes : List ℕ) → from ≢ x → Avoids x nodes → Avoids r nodes → Joined n p from nodes r → Joined m q from (nodes ++ x ∷ []) r
+pub put_back : (n p : ℕ → ℕ) (l x r : ℕ) (m q : ℕ → ℕ) → Inserts n p l x r m q → (from : ℕ) (nodes : List ℕ) → from ≢ x
+    → Avoids x nodes → Avoids r nodes → Joined n p from nodes r → Joined m q from (nodes ++ x ∷ []) r
 put_back n p l x r m q u from [] from_x _ _ j =
     let here : from ≡ l = sym j.1 ∙ u.was_prev in
     (ap m here ∙ u.next_left, u.prev_at ∙ sym here, (u.next_at, u.prev_right))
@@ -113,7 +117,8 @@ put_back n p l x r m q u from (y ∷ rest) from_x xs rs j = (
 )
 
 -- x is the first after l
-pub put_front : (n p : ℕ → ℕ) (l x r : ℕ) (m q : ℕ → ℕ) → Inserts n p l x r m q → (nodes : List ℕ) (to : ℕ) → to ≢ x → Avoids x nodes → Avoids l nodes → Joined n p l nodes to → Joined m q l (x ∷ nodes) to
+pub put_front : (n p : ℕ → ℕ) (l x r : ℕ) (m q : ℕ → ℕ) → Inserts n p l x r m q → (nodes : List ℕ) (to : ℕ) → to ≢ x
+    → Avoids x nodes → Avoids l nodes → Joined n p l nodes to → Joined m q l (x ∷ nodes) to
 put_front n p l x r m q u [] to to_x _ _ j =
     let here : r ≡ to = sym u.was_next ∙ j.0 in
     (u.next_left, u.prev_at, (u.next_at ∙ here, ap q (sym here) ∙ u.prev_right))
@@ -122,7 +127,8 @@ put_front n p l x r m q u (y ∷ rest) to to_x xs ls j =
     (u.next_left, u.prev_at, (u.next_at ∙ here, ap q (sym here) ∙ u.prev_right, behind_l n p l x r m q u y rest to xs.0 to_x xs.1 ls.0 ls.1 j.2))
 
 -- a walk along joined nodes gives them back
-pub walk-joined : (next : List ℕ) (p : ℕ → ℕ) (from : ℕ) (nodes : List ℕ) (to : ℕ) → Joined (slice_index next) p from nodes to → walk next from (length nodes) ≡ nodes
+pub walk-joined : (next : List ℕ) (p : ℕ → ℕ) (from : ℕ) (nodes : List ℕ) (to : ℕ) → Joined (slice_index next) p from nodes to
+    → walk next from (length nodes) ≡ nodes
 walk-joined next p from [] to j = refl
 walk-joined next p from (y ∷ rest) to j =
     ap (λ z. z ∷ walk next z (length rest)) j.0 ∙ ap (λ z. y ∷ z) (walk-joined next p y rest to j.2)

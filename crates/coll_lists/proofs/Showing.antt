@@ -1,5 +1,6 @@
 -- The columns after a move show the layout after it.
-use Rattle.std.proofs.Common.{◌≡◌, ◌≢◌, ℕ, suc, ◌+◌, ◌-◌, ◌<◌, ◌≤◌, ◌&&◌, cond, List, length, eqb, ltb, sym, refl, ap, subst, ◌∙◌, inl, inr, eq-eqb, ne_eqb, lt-ltb, le-ltb, set, slice_index, arith, add-one, ◌^◌}
+use Rattle.std.proofs.Common.{◌≡◌, ◌≢◌, ℕ, suc, ◌+◌, ◌-◌, ◌<◌, ◌≤◌, ◌&&◌, cond, List, length, eqb, ltb, sym, refl, ap, subst, ◌∙◌, inl, inr, eq-eqb}
+use Rattle.std.proofs.Common.{ne_eqb, lt-ltb, le-ltb, set, slice_index, arith, add-one, ◌^◌}
 use Rattle.std.proofs.lemmas.Bool.{cases_eq}
 use Rattle.std.proofs.lemmas.List.{get_or-set_same, get_or-set_other, length-set}
 use Rattle.coll_lists.specs.Columns.{Joined, Shows, len_entered}
@@ -30,19 +31,22 @@ Closed-set xs i v low closed k within =
     ])
 
 -- how often a node stands on a list that the columns show
-pub times-here : (next prev list len : List ℕ) (L : Layout) → Shows next prev list len L → (x : ℕ) → x < length list → times x (sequence L (slice_index list x)) ≡ 1
+pub times-here : (next prev list len : List ℕ) (L : Layout) → Shows next prev list len L → (x : ℕ) → x < length list
+    → times x (sequence L (slice_index list x)) ≡ 1
 times-here next prev list len L s x low =
     s.placed x (slice_index list x) (s.within x low)
     ∙ ap (λ t. cond (t && eqb (slice_index list x) (slice_index list x)) 1 0) (lt-ltb x (length list) low)
     ∙ ap (λ t. cond t 1 0) (eq-eqb (slice_index list x) (slice_index list x) refl)
 
-pub times-elsewhere : (next prev list len : List ℕ) (L : Layout) → Shows next prev list len L → (x l : ℕ) → x < length list → l < length len → slice_index list x ≢ l → times x (sequence L l) ≡ 0
+pub times-elsewhere : (next prev list len : List ℕ) (L : Layout) → Shows next prev list len L → (x l : ℕ) → x < length list
+    → l < length len → slice_index list x ≢ l → times x (sequence L l) ≡ 0
 times-elsewhere next prev list len L s x l low list_low ne =
     s.placed x l list_low
     ∙ ap (λ t. cond (t && eqb (slice_index list x) l) 1 0) (lt-ltb x (length list) low)
     ∙ ap (λ t. cond t 1 0) (ne_eqb (slice_index list x) l ne)
 
-pub times-head : (next prev list len : List ℕ) (L : Layout) → Shows next prev list len L → (x l : ℕ) → length list ≤ x → l < length len → times x (sequence L l) ≡ 0
+pub times-head : (next prev list len : List ℕ) (L : Layout) → Shows next prev list len L → (x l : ℕ) → length list ≤ x
+    → l < length len → times x (sequence L l) ≡ 0
 times-head next prev list len L s x l high list_low =
     s.placed x l list_low
     ∙ ap (λ t. cond (t && eqb (slice_index list x) l) 1 0) (le-ltb x (length list) high)
@@ -55,7 +59,9 @@ pub record Loose (next prev list len : List ℕ) (L : Layout) (x : ℕ) : Type 0
   pub prev_in : Closed prev
   pub joined : (l : ℕ) → l < length len → Joined (slice_index next) (slice_index prev) (length list + l) (taken_out x (sequence L l)) (length list + l)
 
-pub unlinks : (next prev : List ℕ) (x : ℕ) → slice_index prev x < length next → slice_index next x < length prev → slice_index next (slice_index prev x) ≡ x → slice_index prev (slice_index next x) ≡ x → Unlinks (slice_index next) (slice_index prev) x (slice_index (next_unlinked next prev x)) (slice_index (prev_unlinked next prev x))
+pub unlinks : (next prev : List ℕ) (x : ℕ) → slice_index prev x < length next → slice_index next x < length prev
+    → slice_index next (slice_index prev x) ≡ x → slice_index prev (slice_index next x) ≡ x
+    → Unlinks (slice_index next) (slice_index prev) x (slice_index (next_unlinked next prev x)) (slice_index (prev_unlinked next prev x))
 unlinks next prev x left_low right_low back forth = record {
   after_left = back;
   before_right = forth;
@@ -65,12 +71,14 @@ unlinks next prev x left_low right_low back forth = record {
   prev_off = λ i ne. off_set prev (slice_index next x) (slice_index prev x) i ne;
 }
 
-pub Loose-unlinked : (next prev list len : List ℕ) (L : Layout) (x : ℕ) → Shows next prev list len L → x < length list → Loose (next_unlinked next prev x) (prev_unlinked next prev x) list len L x
+pub Loose-unlinked : (next prev list len : List ℕ) (L : Layout) (x : ℕ) → Shows next prev list len L → x < length list
+    → Loose (next_unlinked next prev x) (prev_unlinked next prev x) list len L x
 Loose-unlinked next prev list len L x s low =
     let home : slice_index list x < length len = s.within x low in
     let once : times x (sequence L (slice_index list x)) ≡ 1 = times-here next prev list len L s x low in
     let some : 0 < times x (sequence L (slice_index list x)) = omega arith in
-    let ring : Joined (slice_index next) (slice_index prev) (length list + slice_index list x) (sequence L (slice_index list x)) (length list + slice_index list x) = s.joined (slice_index list x) home in
+    let ring : Joined (slice_index next) (slice_index prev) (length list + slice_index list x) (sequence L (slice_index list x))
+    (length list + slice_index list x) = s.joined (slice_index list x) home in
     let lens : (length next ≡ length list + length len) × (length prev ≡ length list + length len) = (s.next_len, s.prev_len) in
     let next_at : slice_index next x < length next = s.next_in x (omega arith) in
     let prev_at : slice_index prev x < length prev = s.prev_in x (omega arith) in
@@ -87,7 +95,9 @@ Loose-unlinked next prev list len L x s low =
           (left (slice_index next) (slice_index prev) x _ _ steps (sequence L l) (length list + l) far).beside (length list + l) far (s.joined l list_low);
     }
 
-pub inserts : (next prev : List ℕ) (l x r : ℕ) → l ≢ x → r ≢ x → l < length next → x < length next → x < length prev → r < length prev → slice_index next l ≡ r → slice_index prev r ≡ l → Inserts (slice_index next) (slice_index prev) l x r (slice_index (next_linked next l x r)) (slice_index (prev_linked prev l x r))
+pub inserts : (next prev : List ℕ) (l x r : ℕ) → l ≢ x → r ≢ x → l < length next → x < length next → x < length prev
+    → r < length prev → slice_index next l ≡ r → slice_index prev r ≡ l
+    → Inserts (slice_index next) (slice_index prev) l x r (slice_index (next_linked next l x r)) (slice_index (prev_linked prev l x r))
 inserts next prev l x r l_x r_x l_low x_low x_prev r_prev forth back = record {
   was_next = forth;
   was_prev = back;
@@ -102,7 +112,8 @@ inserts next prev l x r l_x r_x l_low x_low x_prev r_prev forth back = record {
 pub sums : {a b c d : ℕ} → a ≡ b → c ≡ d → a + c ≡ b + d
 sums {b} {c} e f = ap (λ z. z + c) e ∙ ap (λ z. b + z) f
 
-pub within_set : (list : List ℕ) (x l m : ℕ) → l < m → ((node : ℕ) → node < length list → slice_index list node < m) → (node : ℕ) → node < length list → slice_index (set list x l) node < m
+pub within_set : (list : List ℕ) (x l m : ℕ) → l < m → ((node : ℕ) → node < length list → slice_index list node < m) → (node : ℕ)
+    → node < length list → slice_index (set list x l) node < m
 within_set list x l m l_low within node low =
     elim (cases_eq node x) [
       | inl e ↦ subst (λ z. z < m) (sym (ap (slice_index (set list x l)) e ∙ at_set list x l (subst (λ z. z < length list) e low))) l_low
@@ -135,7 +146,8 @@ counted_set next prev list len L s x l x_low l_low M moved k low =
     let from_low : slice_index list x < length len = s.within x x_low in
     let once : times x (sequence L (slice_index list x)) ≡ 1 = times-here next prev list len L s x x_low in
     let less_len : length (set len (slice_index list x) (slice_index len (slice_index list x) - 1)) ≡ length len = length-set len _ _ in
-    let less : (j : ℕ) → j < length len → slice_index (set len (slice_index list x) (slice_index len (slice_index list x) - 1)) j ≡ length (taken_out x (sequence L j))
+    let less : (j : ℕ) → j < length len
+    → slice_index (set len (slice_index list x) (slice_index len (slice_index list x) - 1)) j ≡ length (taken_out x (sequence L j))
     = λ j j_low.
     let out : length (taken_out x (sequence L j)) + times x (sequence L j) ≡ length (sequence L j) = length-taken_out x (sequence L j) in
     let was : slice_index len j ≡ length (sequence L j) = s.counted j j_low in
@@ -185,7 +197,8 @@ Shows-moved next prev list len L s x l x_low l_low M moved next' prev' next_len 
     }
 
 -- none of the nodes of a list is a head
-pub heads_off : (next prev list len : List ℕ) (L : Layout) → Shows next prev list len L → (x h k : ℕ) → x < length list → length list ≤ h → k < length len → Avoids h (taken_out x (sequence L k))
+pub heads_off : (next prev list len : List ℕ) (L : Layout) → Shows next prev list len L → (x h k : ℕ) → x < length list
+    → length list ≤ h → k < length len → Avoids h (taken_out x (sequence L k))
 heads_off next prev list len L s x h k x_low high low =
     Avoids-from_times h (taken_out x (sequence L k))
     (times-taken_out-other x h (sequence L k) (λ e. absurd (omega (arith, e))) ∙ times-head next prev list len L s h k high low)

@@ -1,5 +1,6 @@
 -- What the columns say of the layout that they show.
-use Rattle.std.proofs.Common.{◌≡◌, ℕ, zero, suc, ◌+◌, ◌<◌, ◌≤◌, cond, List, [], ◌∷◌, length, sym, refl, ap, subst, ◌∙◌, inl, inr, Some, None, eq-eqb, ne_eqb, lt-ltb, le-ltb, get_or, slice_index, slice_get, arith, add-zero, suc-ne-zero}
+use Rattle.std.proofs.Common.{◌≡◌, ℕ, zero, suc, ◌+◌, ◌<◌, ◌≤◌, cond, List, [], ◌∷◌, length, sym, refl, ap, subst, ◌∙◌, inl, inr, Some, None, eq-eqb}
+use Rattle.std.proofs.Common.{ne_eqb, lt-ltb, le-ltb, get_or, slice_index, slice_get, arith, add-zero, suc-ne-zero}
 use Rattle.std.proofs.lemmas.Bool.{cases_eq, cases_lt}
 use Rattle.std.proofs.lemmas.List.{ext_get_or}
 use Rattle.coll_lists.specs.Columns.{Joined, Shows, node_at, walk, walks}
@@ -82,7 +83,8 @@ pub first_in-joined : (n p : ℕ → ℕ) (from : ℕ) (s : List ℕ) (to k : �
 first_in-joined n p from [] to k high low j = ap (node_at k) j.0 ∙ node_at-high k to high
 first_in-joined n p from (y ∷ rest) to k high low j = ap (node_at k) j.0 ∙ node_at-low k y low.0
 
-pub last_in-tail : (n p : ℕ → ℕ) (y : ℕ) (rest : List ℕ) (to k : ℕ) → y < k → Inside k rest → Joined n p y rest to → (p to < k) × (Some (p to) ≡ slice_get (y ∷ rest) (length rest))
+pub last_in-tail : (n p : ℕ → ℕ) (y : ℕ) (rest : List ℕ) (to k : ℕ) → y < k → Inside k rest → Joined n p y rest to
+    → (p to < k) × (Some (p to) ≡ slice_get (y ∷ rest) (length rest))
 last_in-tail n p y [] to k y_low low j = (subst (λ z. z < k) (sym j.1) y_low, ap Some j.1)
 last_in-tail n p y (z ∷ rest) to k y_low low j = last_in-tail n p z rest to k low.0 low.1 j.2
 
@@ -92,7 +94,8 @@ last_in-joined n p from (y ∷ rest) to k high low j =
     let last : (p to < k) × (Some (p to) ≡ slice_get (y ∷ rest) (length rest)) = last_in-tail n p y rest to k low.0 low.1 j.2 in
     node_at-low k (p to) last.0 ∙ last.1 ∙ ap (slice_get (y ∷ rest)) (omega arith)
 
-pub after_in-joined : (n p : ℕ → ℕ) (x from : ℕ) (s : List ℕ) (to k : ℕ) → k ≤ to → Inside k s → 0 < times x s → Joined n p from s to → node_at k (n x) ≡ after_in x s
+pub after_in-joined : (n p : ℕ → ℕ) (x from : ℕ) (s : List ℕ) (to k : ℕ) → k ≤ to → Inside k s → 0 < times x s
+    → Joined n p from s to → node_at k (n x) ≡ after_in x s
 after_in-joined n p x from [] to k high low some j = absurd (omega (arith, some))
 after_in-joined n p x from (y ∷ []) to k high low some j =
     elim (cases_eq y x) [
@@ -116,7 +119,8 @@ before_in-none x y (z ∷ rest) none =
           ∙ before_in-none x z rest (sym (times-other x z rest ne) ∙ none)
     ]
 
-pub before_in-tail : (n p : ℕ → ℕ) (x y : ℕ) (rest : List ℕ) (to k : ℕ) → y < k → Inside k rest → 0 < times x rest → Joined n p y rest to → (p x < k) × (Some (p x) ≡ before_in x (y ∷ rest))
+pub before_in-tail : (n p : ℕ → ℕ) (x y : ℕ) (rest : List ℕ) (to k : ℕ) → y < k → Inside k rest → 0 < times x rest
+    → Joined n p y rest to → (p x < k) × (Some (p x) ≡ before_in x (y ∷ rest))
 before_in-tail n p x y [] to k y_low low some j = absurd (omega (arith, some))
 before_in-tail n p x y (z ∷ rest) to k y_low low some j =
     elim (cases_eq z x) [
@@ -124,11 +128,13 @@ before_in-tail n p x y (z ∷ rest) to k y_low low some j =
           let is : p x ≡ y = ap p (sym e) ∙ j.1 in
           (subst (λ i. i < k) (sym is) y_low, ap Some is ∙ sym (ap (λ b. cond b (Some y) (before_in x (z ∷ rest))) (eq-eqb z x e)))
       | inr ne ↦
-          let more : (p x < k) × (Some (p x) ≡ before_in x (z ∷ rest)) = before_in-tail n p x z rest to k low.0 low.1 (subst (λ i. 0 < i) (times-other x z rest ne) some) j.2 in
+          let more : (p x < k) × (Some (p x) ≡ before_in x (z ∷ rest)) =
+          before_in-tail n p x z rest to k low.0 low.1 (subst (λ i. 0 < i) (times-other x z rest ne) some) j.2 in
           (more.0, more.1 ∙ sym (ap (λ b. cond b (Some y) (before_in x (z ∷ rest))) (ne_eqb z x ne)))
     ]
 
-pub before_in-joined : (n p : ℕ → ℕ) (x from : ℕ) (s : List ℕ) (to k : ℕ) → k ≤ from → Inside k s → times x s ≡ 1 → Joined n p from s to → node_at k (p x) ≡ before_in x s
+pub before_in-joined : (n p : ℕ → ℕ) (x from : ℕ) (s : List ℕ) (to k : ℕ) → k ≤ from → Inside k s → times x s ≡ 1
+    → Joined n p from s to → node_at k (p x) ≡ before_in x s
 before_in-joined n p x from [] to k high low once j = absurd (omega (arith, once))
 before_in-joined n p x from (y ∷ rest) to k high low once j =
     elim (cases_eq y x) [

@@ -1,5 +1,6 @@
 -- Walks along a list give its sequence, or the reverse.
-use Rattle.std.proofs.Common.{◌≡◌, ◌≢◌, ℕ, suc, ◌+◌, ◌-◌, ◌<◌, ◌≤◌, cond, Bool, true, false, List, [], ◌∷◌, ◌++◌, length, reverse, sym, refl, ap, subst, ◌∙◌, inl, inr, Option, Some, None, eqb, slice_get, zero, eq-eqb, ne_eqb, lt-ltb, le-ltb, arith}
+use Rattle.std.proofs.Common.{◌≡◌, ◌≢◌, ℕ, suc, ◌+◌, ◌-◌, ◌<◌, ◌≤◌, cond, Bool, true, false, List, [], ◌∷◌, ◌++◌, length, reverse, sym, refl, ap}
+use Rattle.std.proofs.Common.{subst, ◌∙◌, inl, inr, Option, Some, None, eqb, slice_get, zero, eq-eqb, ne_eqb, lt-ltb, le-ltb, arith}
 use Rattle.std.proofs.lemmas.Bool.{cases_eq, cases_lt}
 use Rattle.std.proofs.lemmas.List.{length-reverse, reverse-append}
 use Rattle.std.proofs.lemmas.Option.{same_Some}
@@ -169,7 +170,8 @@ goes x (y ∷ z ∷ rest) once some =
       | inr ne ↦
           let next : after_in x (y ∷ z ∷ rest) ≡ after_in x (z ∷ rest) = ap (λ b. cond b (Some z) (after_in x (z ∷ rest))) (ne_eqb y x ne) in
           let more : Goes x (z ∷ rest) = goes x (z ∷ rest) tail (subst (λ k. 0 < k) (times-other x y (z ∷ rest) ne) some) in
-          let apart : (w : ℕ) → after_in x (z ∷ rest) ≡ Some w → y ≢ w = λ w is f. absurd (omega (arith, more.stays w is, subst (λ k. times k (z ∷ rest) ≡ 0) f gone)) in
+          let apart : (w : ℕ) → after_in x (z ∷ rest) ≡ Some w
+          → y ≢ w = λ w is f. absurd (omega (arith, more.stays w is, subst (λ k. times k (z ∷ rest) ≡ 0) f gone)) in
           record {
             on = from_node-later x y (z ∷ rest) ne ∙ more.on
                 ∙ ap (λ k. x ∷ k) (sym (ap (λ r. from_option r (y ∷ z ∷ rest)) next ∙ from_option-later (after_in x (z ∷ rest)) y (z ∷ rest) apart));
@@ -201,7 +203,8 @@ first_in-in_order false s = refl
 
 module _ (n : ℕ) (L : Layout) (lawful : IsLawful n L) (b : Bool) where
   -- a walk along the list that its first node stands on
-  pub onward-on : (r : Option ℕ) (l : ℕ) → l < length L → ((w : ℕ) → r ≡ Some w → 0 < times w (sequence L l)) → onward L b r ≡ from_option r (in_order b (sequence L l))
+  pub onward-on : (r : Option ℕ) (l : ℕ) → l < length L → ((w : ℕ) → r ≡ Some w → 0 < times w (sequence L l))
+      → onward L b r ≡ from_option r (in_order b (sequence L l))
   onward-on None l low there = refl
   onward-on (Some w) l low there = ap (λ k. from_node w (in_order b (sequence L k))) (stands n L lawful w l low (there w refl)).1
 
@@ -215,7 +218,8 @@ module _ (n : ℕ) (L : Layout) (lawful : IsLawful n L) (b : Bool) where
   pub step_is : (x : ℕ) → after_in x (in_order b (sequence L (list_of L x))) ≡ beside b x (sequence L (list_of L x))
   step_is x = after_in-in_order b x (sequence L (list_of L x)) (once_at_most n L lawful (list_of L x) x)
 
-  pub onward-step : (x : ℕ) (r : Option ℕ) → x < n → r ≡ beside b x (sequence L (list_of L x)) → (onward L b (Some x) ≡ x ∷ onward L b r) × ForSome r (λ w. w < n)
+  pub onward-step : (x : ℕ) (r : Option ℕ) → x < n → r ≡ beside b x (sequence L (list_of L x))
+      → (onward L b (Some x) ≡ x ∷ onward L b r) × ForSome r (λ w. w < n)
   onward-step x r low is =
       let at = node_stands n L lawful x low in
       let step : Goes x (in_order b (sequence L (list_of L x))) = goes_on x low in

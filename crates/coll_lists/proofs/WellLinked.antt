@@ -1,5 +1,6 @@
 -- Lists that columns show read alike forwards and backwards.
-use Rattle.std.proofs.Common.{◌≡◌, ℕ, ◌+◌, ◌<◌, ◌≤◌, List, [], ◌∷◌, ◌++◌, length, reverse, Option, sym, refl, ap, subst, ◌∙◌, inl, inr, slice_index, arith, add_comm}
+use Rattle.std.proofs.Common.{◌≡◌, ℕ, ◌+◌, ◌<◌, ◌≤◌, List, [], ◌∷◌, ◌++◌, length, reverse, Option, sym, refl, ap, subst, ◌∙◌, inl, inr, slice_index}
+use Rattle.std.proofs.Common.{arith, add_comm}
 use Rattle.std.proofs.lemmas.Bool.{cases_eq}
 use Rattle.std.proofs.lemmas.List.{reverse-append}
 use Rattle.coll_lists.specs.Columns.{Joined, Shows, node_at}
@@ -11,7 +12,8 @@ use Rattle.coll_lists.proofs.Showing.{times-head}
 use Rattle.coll_lists.proofs.Values.{Inside, Inside-times, list_of-shown, node_at-high, node_at-low}
 
 -- following the links of joined nodes gives them
-pub Follows-joined : (n p : ℕ → ℕ) (f : ℕ → Option ℕ) (from : ℕ) (s : List ℕ) (to k : ℕ) → k ≤ to → Inside k s → ((y : ℕ) → 0 < times y s → f y ≡ node_at k (n y)) → Joined n p from s to → Follows f (node_at k (n from)) s
+pub Follows-joined : (n p : ℕ → ℕ) (f : ℕ → Option ℕ) (from : ℕ) (s : List ℕ) (to k : ℕ) → k ≤ to → Inside k s
+    → ((y : ℕ) → 0 < times y s → f y ≡ node_at k (n y)) → Joined n p from s to → Follows f (node_at k (n from)) s
 Follows-joined n p f from [] to k high low is j = ap (node_at k) j.0 ∙ node_at-high k to high
 Follows-joined n p f from (y ∷ rest) to k high low is j = (
   ap (node_at k) j.0 ∙ node_at-low k y low.0,
@@ -46,12 +48,16 @@ times-reverse x (y ∷ rest) =
 pub IsWellLinked-shown : (c : Columns) (L : Layout) → Shows c.next.items c.prev.items c.list.items c.len.items L → (l : ℕ) → l < length L → IsWellLinked c L l
 IsWellLinked-shown c L s l low =
     let l_low : l < length c.len.items = subst (λ z. l < z) s.lists_len low in
-    let ring : Joined (slice_index c.next.items) (slice_index c.prev.items) (length c.list.items + l) (sequence L l) (length c.list.items + l) = s.joined l l_low in
-    let none : (x : ℕ) → length c.list.items ≤ x → times x (sequence L l) ≡ 0 = λ x high. times-head c.next.items c.prev.items c.list.items c.len.items L s x l high l_low in
+    let ring : Joined (slice_index c.next.items) (slice_index c.prev.items) (length c.list.items + l) (sequence L l) (length c.list.items + l) =
+    s.joined l l_low in
+    let none : (x : ℕ) → length c.list.items ≤ x
+    → times x (sequence L l) ≡ 0 = λ x high. times-head c.next.items c.prev.items c.list.items c.len.items L s x l high l_low in
     record {
-      forwards = Follows-joined (slice_index c.next.items) (slice_index c.prev.items) (reads (nodes_of c) c.next.items) (length c.list.items + l) (sequence L l) (length c.list.items + l) (length c.list.items) (omega arith)
+      forwards = Follows-joined (slice_index c.next.items) (slice_index c.prev.items) (reads (nodes_of c) c.next.items)
+          (length c.list.items + l) (sequence L l) (length c.list.items + l) (length c.list.items) (omega arith)
           (Inside-times (length c.list.items) (sequence L l) none) (λ y some. refl) ring;
-      backwards = Follows-joined (slice_index c.prev.items) (slice_index c.next.items) (reads (nodes_of c) c.prev.items) (length c.list.items + l) (reverse (sequence L l)) (length c.list.items + l) (length c.list.items) (omega arith)
+      backwards = Follows-joined (slice_index c.prev.items) (slice_index c.next.items) (reads (nodes_of c) c.prev.items)
+          (length c.list.items + l) (reverse (sequence L l)) (length c.list.items + l) (length c.list.items) (omega arith)
           (Inside-times (length c.list.items) (reverse (sequence L l)) (λ x high. times-reverse x (sequence L l) ∙ none x high)) (λ y some. refl)
           (Joined-reverse (slice_index c.next.items) (slice_index c.prev.items) (length c.list.items + l) (sequence L l) (length c.list.items + l) ring);
       counted = s.counted l l_low;

@@ -1,6 +1,7 @@
 -- How index columns show a layout. Indices below the number of nodes are nodes; after them comes one head for
 -- each list, which stands before the list's first node and after its last one, so that every list is a ring.
-use Rattle.std.specs.Prelude.{◌≡◌, ℕ, zero, suc, ◌+◌, ◌-◌, Option, Some, None, ◌^◌, ◌<◌, List, [], ◌∷◌, length, ◌==◌, ◌&&◌, nat_lt, if◌then◌else◌, slice_index, slice_set}
+use Rattle.std.specs.Prelude.{◌≡◌, ℕ, zero, suc, ◌+◌, ◌-◌, Option, Some, None, ◌^◌, ◌<◌, List, [], ◌∷◌, length, ◌==◌, ◌&&◌, nat_lt, if◌then◌else◌}
+use Rattle.std.specs.Prelude.{slice_index, slice_set}
 use Rattle.coll_lists.specs.Layouts.{Layout, sequence, times}
 
 -- from one index to another, these nodes stand between them, each linked with the one before and the one after

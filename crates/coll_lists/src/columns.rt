@@ -62,7 +62,9 @@ impl Columns {
         requires from_in { slice_index self.old.list.items node < length self.old.len.items }
         requires list_in { list < length self.old.len.items }
         requires some { 0 < slice_index self.old.len.items (slice_index self.old.list.items node) }
-        requires room { slice_index (slice_set self.old.len.items (slice_index self.old.list.items node) (slice_index self.old.len.items (slice_index self.old.list.items node) - 1)) list + 1 < 2 ^ 32 }
+        requires room { slice_index
+            (slice_set self.old.len.items (slice_index self.old.list.items node) (slice_index self.old.len.items (slice_index self.old.list.items node) - 1))
+            list + 1 < 2 ^ 32 }
         ensures next { self.new.next.items ≡ self.old.next.items }
         ensures prev { self.new.prev.items ≡ self.old.prev.items }
         ensures list { self.new.list.items ≡ slice_set self.old.list.items node list }

@@ -38,7 +38,8 @@ impl Model for Links {
 
     ghost view = { λ a. walks a.columns.next.items (length a.columns.list.items) a.columns.len.items };
 
-    ghost invariant = { λ a. Shows a.columns.next.items a.columns.prev.items a.columns.list.items a.columns.len.items (walks a.columns.next.items (length a.columns.list.items) a.columns.len.items) };
+    ghost invariant = { λ a. Shows a.columns.next.items a.columns.prev.items a.columns.list.items a.columns.len.items
+        (walks a.columns.next.items (length a.columns.list.items) a.columns.len.items) };
 }
 
 impl Links {

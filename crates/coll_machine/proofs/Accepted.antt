@@ -12,7 +12,8 @@ use Rattle.coll_kinds.specs.declared.kind.Mode.{Mode}
 use Rattle.coll_kinds.specs.declared.kind.Mode.TheVariants.{Once, Persistent}
 use Rattle.coll_kinds.specs.declared.ticket.Ticket.{Ticket}
 use Rattle.coll_kinds.specs.Common.{broken, member_of, mode_number}
-use Rattle.coll_machine.specs.Common.{Setting, group, size, State, Request, found, Planned, Post, Init, Start, Retire, Free, first_of, unless, mismatch_in, naming_refusals, idle_refusals, start_refusals, refusals, refusal}
+use Rattle.coll_machine.specs.Common.{Setting, group, size, State, Request, found, Planned, Post, Init, Start, Retire, Free, first_of, unless}
+use Rattle.coll_machine.specs.Common.{mismatch_in, naming_refusals, idle_refusals, start_refusals, refusals, refusal}
 
 -- where no condition is the first, none holds
 pub all_none : (xs : List (Option Refusal)) → first_of xs ≡ None → AllByRecursion (λ (o : Option Refusal). o ≡ None) xs
@@ -47,7 +48,8 @@ as_member g comm rank = unwrap_or (member_of rank (group g comm)) 0
 number_is : (g : Setting) (comm rank member : ℕ) → member_of rank (group g comm) ≡ Some member → as_member g comm rank ≡ member
 number_is g comm rank member is = ap (λ (o : Option ℕ). unwrap_or o 0) is
 
-pub accepted_post : (g : Setting) (s : State) (rank comm member : ℕ) (plan : Planned) (bytes : List ℕ) → refusal g s (Post rank comm plan bytes) ≡ None → member_of rank (group g comm) ≡ Some member
+pub accepted_post : (g : Setting) (s : State) (rank comm member : ℕ) (plan : Planned) (bytes : List ℕ)
+    → refusal g s (Post rank comm plan bytes) ≡ None → member_of rank (group g comm) ≡ Some member
     → Accepted g s comm member Once plan
 accepted_post g s rank comm member plan bytes e is =
     let h = all_none (refusals g s (Post rank comm plan bytes)) e in
@@ -57,7 +59,8 @@ accepted_post g s rank comm member plan bytes e is =
       agrees = ap (λ m. mismatch_in (group g comm) (s.posts comm) (length (s.posts comm m)) plan.sig) (sym (number_is g comm rank member is)) ∙ h.1.1.1.1.1.0;
     }
 
-pub accepted_init : (g : Setting) (s : State) (rank comm member : ℕ) (plan : Planned) → refusal g s (Init rank comm plan) ≡ None → member_of rank (group g comm) ≡ Some member → Accepted g s comm member Persistent plan
+pub accepted_init : (g : Setting) (s : State) (rank comm member : ℕ) (plan : Planned) → refusal g s (Init rank comm plan) ≡ None
+    → member_of rank (group g comm) ≡ Some member → Accepted g s comm member Persistent plan
 accepted_init g s rank comm member plan e is =
     let h = all_none (refusals g s (Init rank comm plan)) e in
     record {
@@ -71,7 +74,8 @@ accepted_init g s rank comm member plan e is =
 pub found_is : (s : State) (t : Ticket) (q : Request) → found s t ≡ Some q → (s.generation t.slot ≡ t.generation) × (s.request t.slot ≡ Some q)
 found_is s t q e = go (eqb (s.generation t.slot) t.generation) refl e
   where
-    go : (b : Bool) → eqb (s.generation t.slot) t.generation ≡ b → cond b (s.request t.slot) None ≡ Some q → (s.generation t.slot ≡ t.generation) × (s.request t.slot ≡ Some q)
+    go : (b : Bool) → eqb (s.generation t.slot) t.generation ≡ b → cond b (s.request t.slot) None ≡ Some q
+        → (s.generation t.slot ≡ t.generation) × (s.request t.slot ≡ Some q)
     go true is e = (eqb-true _ _ is, e)
     go false is e = absurd (none-some q e)
 
@@ -87,7 +91,8 @@ pub record IsIdleOf (rank : ℕ) (q : Request) : Type 0 where
   pub mode_is : q.mode ≡ Persistent
   pub idle : q.active ≡ false
 
-pub started_mine : (g : Setting) (s : State) (rank : ℕ) (t : Ticket) (bytes : List ℕ) (q : Request) → found s t ≡ Some q → refusal g s (Start rank t bytes) ≡ None → IsIdleOf rank q
+pub started_mine : (g : Setting) (s : State) (rank : ℕ) (t : Ticket) (bytes : List ℕ) (q : Request) → found s t ≡ Some q
+    → refusal g s (Start rank t bytes) ≡ None → IsIdleOf rank q
 started_mine g s rank t bytes q is e =
     let list : Option Request → List (Option Refusal) = λ o. naming_refusals o rank ++ idle_refusals o ++ start_refusals g s bytes o in
     let h = all_none (list (Some q)) (ap (λ o. first_of (list o)) (sym is) ∙ e) in
@@ -109,7 +114,8 @@ freed_mine g s rank t e = go (found s t) refl
     go : (o : Option Request) → found s t ≡ o → FreesIdle s rank t
     go None is = absurd (none-some Stale (sym (ap (λ (o : Option Request). first_of (naming_refusals o rank ++ idle_refusals o)) (sym is) ∙ e)))
     go (Some q) is =
-        let h = all_none (naming_refusals (Some q) rank ++ idle_refusals (Some q)) (ap (λ (o : Option Request). first_of (naming_refusals o rank ++ idle_refusals o)) (sym is) ∙ e) in
+        let h = all_none (naming_refusals (Some q) rank ++ idle_refusals (Some q))
+        (ap (λ (o : Option Request). first_of (naming_refusals o rank ++ idle_refusals o)) (sym is) ∙ e) in
         record {
           request = q;
           is = (found_is s t q is).1;

@@ -7,7 +7,9 @@ use Rattle.coll_kinds.specs.declared.signature.Signature.{Signature}
 use Rattle.coll_kinds.specs.declared.ticket.Ticket.{Ticket}
 use Rattle.coll_kinds.specs.Common.{member_of, lent, put}
 use Rattle.coll_kinds.proofs.Puts.{put_same}
-use Rattle.coll_machine.specs.Common.{Setting, group, size, Request, State, nothing, found, key_of, new_request, created, once_more, started, rested, rested_by, holding, IsNew, Clears, Posted, Inited, Started, Retired, Freed, over_slots, lent_bytes, IsPosted, ArePosted}
+use Rattle.coll_machine.specs.Common.{Setting, group, size, Request, State, nothing, found, key_of, new_request, created, once_more, started, rested}
+use Rattle.coll_machine.specs.Common.{rested_by, holding, IsNew, Clears, Posted, Inited, Started, Retired, Freed, over_slots, lent_bytes, IsPosted}
+use Rattle.coll_machine.specs.Common.{ArePosted}
 use Rattle.coll_machine.specs.Lents.{lent_at, lent_by}
 use Rattle.coll_machine.specs.Laws.{LentChanges}
 use Rattle.coll_machine.proofs.Puts.{put2_same}
@@ -42,18 +44,22 @@ lent_kept g s t q sig h = over_same (lent_by g (created s t q sig)) (lent_by g s
         let now = still_there s t q sig p.comm p.member p.place posted.sig posted.sig_is in
         ap (λ (o : Option Signature). cond p.active (unwrap_or (option_map (λ sig. lent sig (size g p.comm) p.member) o) 0) 0) (now ∙ sym posted.sig_is)
 
-lent_created : (g : Setting) (s : State) (t : Ticket) (q : Request) (sig : Signature) → ArePosted g s → IsNew g s t → q.active ≡ false → lent_bytes g (created s t q sig) ≡ lent_bytes g s
+lent_created : (g : Setting) (s : State) (t : Ticket) (q : Request) (sig : Signature) → ArePosted g s → IsNew g s t
+    → q.active ≡ false → lent_bytes g (created s t q sig) ≡ lent_bytes g s
 lent_created g s t q sig h new idle =
     let after : State = created s t q sig in
-    let one : total g after (put s.request t.slot (Some q)) + lent_by g after (s.request t.slot) ≡ total g after s.request + lent_by g after (Some q) = over_put (lent_by g after) s.request t.slot (Some q) g.slots new.low in
+    let one : total g after (put s.request t.slot (Some q)) + lent_by g after (s.request t.slot) ≡ total g after s.request + lent_by g after (Some q) =
+    over_put (lent_by g after) s.request t.slot (Some q) g.slots new.low in
     let spare : lent_by g after (s.request t.slot) ≡ 0 = ap (lent_by g after) new.spare in
     let none : lent_by g after (Some q) ≡ 0 = lends_nothing g after q idle in
     let kept : total g after s.request ≡ lent_bytes g s = lent_kept g s t q sig h in
     omega arith
 
-lent_started : (g : Setting) (s : State) (slot : ℕ) (q : Request) (bytes : List ℕ) → slot < g.slots → s.request slot ≡ Some q → q.active ≡ false → lent_bytes g (started s slot q bytes) ≡ lent_bytes g s + lent_at g s q
+lent_started : (g : Setting) (s : State) (slot : ℕ) (q : Request) (bytes : List ℕ) → slot < g.slots → s.request slot ≡ Some q
+    → q.active ≡ false → lent_bytes g (started s slot q bytes) ≡ lent_bytes g s + lent_at g s q
 lent_started g s slot q bytes low here idle =
-    let one : total g s (put s.request slot (Some (once_more q))) + lent_by g s (s.request slot) ≡ lent_bytes g s + lent_at g s q = over_put (lent_by g s) s.request slot (Some (once_more q)) g.slots low in
+    let one : total g s (put s.request slot (Some (once_more q))) + lent_by g s (s.request slot) ≡ lent_bytes g s + lent_at g s q =
+    over_put (lent_by g s) s.request slot (Some (once_more q)) g.slots low in
     let none : lent_by g s (s.request slot) ≡ 0 = ap (lent_by g s) here ∙ lends_nothing g s q idle in
     let same : lent_bytes g (started s slot q bytes) ≡ total g s (put s.request slot (Some (once_more q))) = refl in
     omega arith
@@ -64,7 +70,8 @@ lent_changes g s u es (Posted rank t comm place sig bytes) l h =
     let q : Request = new_request rank comm p.member place Once in
     let after : State = created s t q h.0.sig in
     let one : lent_bytes g after ≡ lent_bytes g s = lent_created g s t q h.0.sig (are_led g nothing s es (are_nothing g) l) p.new refl in
-    let two : lent_bytes g (started after t.slot q bytes) ≡ lent_bytes g after + lent_at g after q = lent_started g after t.slot q bytes p.new.low (put_same s.request t.slot (Some q)) refl in
+    let two : lent_bytes g (started after t.slot q bytes) ≡ lent_bytes g after + lent_at g after q =
+    lent_started g after t.slot q bytes p.new.low (put_same s.request t.slot (Some q)) refl in
     let leaves : lent_bytes g u ≡ lent_bytes g (started after t.slot q bytes) = ap (lent_bytes g) p.leaves in
     let own : lent_at g after q ≡ lent sig (size g comm) (unwrap_or (member_of rank (group g comm)) 0) =
     ap (λ (o : Option Signature). unwrap_or (option_map (λ sig. lent sig (size g comm) p.member) o) 0)
@@ -74,21 +81,26 @@ lent_changes g s u es (Posted rank t comm place sig bytes) l h =
     omega arith
 lent_changes g s u es (Inited rank t comm place sig) l h =
     let p = h.2 in
-    ap (lent_bytes g) p.leaves ∙ lent_created g s t (new_request rank comm p.member place Persistent) h.0.sig (are_led g nothing s es (are_nothing g) l) p.new refl
+    ap (lent_bytes g) p.leaves
+    ∙ lent_created g s t (new_request rank comm p.member place Persistent) h.0.sig (are_led g nothing s es (are_nothing g) l) p.new refl
 lent_changes g s u es (Started rank t start bytes) l p =
     let q = p.request in
     let here = (found_is s t q p.is).1 in
-    let one : lent_bytes g (started s t.slot q bytes) ≡ lent_bytes g s + lent_at g s q = lent_started g s t.slot q bytes (live_low g s es l t.slot q here) here (started_mine g s rank t bytes q p.is p.accepted).idle in
-    let named : unwrap_or (option_map (lent_at g s) (found s t)) 0 ≡ lent_at g s q = ap (λ (o : Option Request). unwrap_or (option_map (lent_at g s) o) 0) p.is in
+    let one : lent_bytes g (started s t.slot q bytes) ≡ lent_bytes g s + lent_at g s q =
+    lent_started g s t.slot q bytes (live_low g s es l t.slot q here) here (started_mine g s rank t bytes q p.is p.accepted).idle in
+    let named : unwrap_or (option_map (lent_at g s) (found s t)) 0 ≡ lent_at g s q =
+    ap (λ (o : Option Request). unwrap_or (option_map (lent_at g s) o) 0) p.is in
     let leaves : lent_bytes g u ≡ lent_bytes g (started s t.slot q bytes) = ap (lent_bytes g) p.leaves in
     omega arith
 lent_changes g s u es (Retired rank t comm place start bytes) l p =
     let q = p.request in
     let here = (found_is s t q p.is).1 in
-    let one : total g s (put s.request t.slot (rested q)) + lent_by g s (s.request t.slot) ≡ lent_bytes g s + lent_by g s (rested q) = over_put (lent_by g s) s.request t.slot (rested q) g.slots (live_low g s es l t.slot q here) in
+    let one : total g s (put s.request t.slot (rested q)) + lent_by g s (s.request t.slot) ≡ lent_bytes g s + lent_by g s (rested q) =
+    over_put (lent_by g s) s.request t.slot (rested q) g.slots (live_low g s es l t.slot q here) in
     let was : lent_by g s (s.request t.slot) ≡ lent_at g s q = ap (lent_by g s) here ∙ lends_all g s q p.ready.active in
     let is : lent_by g s (rested q) ≡ 0 = rested_lends g s q q.mode in
-    let named : unwrap_or (option_map (lent_at g s) (found s t)) 0 ≡ lent_at g s q = ap (λ (o : Option Request). unwrap_or (option_map (lent_at g s) o) 0) p.is in
+    let named : unwrap_or (option_map (lent_at g s) (found s t)) 0 ≡ lent_at g s q =
+    ap (λ (o : Option Request). unwrap_or (option_map (lent_at g s) o) 0) p.is in
     let leaves : lent_bytes g u ≡ total g s (put s.request t.slot (rested q)) = go p.leaves in
     omega arith
   where
@@ -97,7 +109,8 @@ lent_changes g s u es (Retired rank t comm place start bytes) l p =
     go (inr a) = ap (lent_bytes g) a.1
 lent_changes g s u es (Freed rank t) l p =
     let f = freed_mine g s rank t p.accepted in
-    let one : total g s (put s.request t.slot None) + lent_by g s (s.request t.slot) ≡ lent_bytes g s + 0 = over_put (lent_by g s) s.request t.slot None g.slots (live_low g s es l t.slot f.request f.is) in
+    let one : total g s (put s.request t.slot None) + lent_by g s (s.request t.slot) ≡ lent_bytes g s + 0 =
+    over_put (lent_by g s) s.request t.slot None g.slots (live_low g s es l t.slot f.request f.is) in
     let none : lent_by g s (s.request t.slot) ≡ 0 = ap (lent_by g s) f.is ∙ lends_nothing g s f.request f.idle_of.idle in
     let leaves : lent_bytes g u ≡ total g s (put s.request t.slot None) = ap (lent_bytes g) p.leaves in
     omega arith

@@ -12,7 +12,8 @@ get_front [] x p s e = absurd (none-some s e)
 get_front (y ∷ xs) x zero s e = e
 get_front (y ∷ xs) x (suc p) s e = get_front xs x p s e
 
-pub get_either : {X : Type 0} (xs : List X) (x : X) (p : ℕ) (s : X) → slice_get (xs ++ x ∷ []) p ≡ Some s → (slice_get xs p ≡ Some s) ⊎ ((p ≡ length xs) × (x ≡ s))
+pub get_either : {X : Type 0} (xs : List X) (x : X) (p : ℕ) (s : X) → slice_get (xs ++ x ∷ []) p ≡ Some s
+    → (slice_get xs p ≡ Some s) ⊎ ((p ≡ length xs) × (x ≡ s))
 get_either [] x zero s e = inr (refl, same_Some x s e)
 get_either [] x (suc p) s e = absurd (none-some s e)
 get_either (y ∷ xs) x zero s e = inl e

@@ -8,7 +8,8 @@ use Rattle.coll_machine.specs.Changes.{put2, same_key, put_key}
 pub put2_same : {X : Type 0} (f : ℕ → ℕ → X) (a b : ℕ) (x : X) → put2 f a b x a b ≡ x
 put2_same {X} f a b x = ap (λ (g : ℕ → X). g b) (put_same f a _) ∙ put_same (f a) b x
 
-pub put2_cases : {X : Type 0} (f : ℕ → ℕ → X) (a b : ℕ) (x : X) (c d : ℕ) → ((c ≡ a) × (d ≡ b) × (put2 f a b x c d ≡ x)) ⊎ (((c ≡ a) × (d ≡ b) → ⊥) × (put2 f a b x c d ≡ f c d))
+pub put2_cases : {X : Type 0} (f : ℕ → ℕ → X) (a b : ℕ) (x : X) (c d : ℕ)
+    → ((c ≡ a) × (d ≡ b) × (put2 f a b x c d ≡ x)) ⊎ (((c ≡ a) × (d ≡ b) → ⊥) × (put2 f a b x c d ≡ f c d))
 put2_cases {X} f a b x c d = go (cases_eq c a) (cases_eq d b)
   where
     go : (c ≡ a) ⊎ (c ≡ a → ⊥) → (d ≡ b) ⊎ (d ≡ b → ⊥) → ((c ≡ a) × (d ≡ b) × (put2 f a b x c d ≡ x)) ⊎ (((c ≡ a) × (d ≡ b) → ⊥) × (put2 f a b x c d ≡ f c d))
@@ -31,5 +32,9 @@ put_key_cases {X} f k x a = go (cases_eq a.comm k.comm) (cases_eq a.place k.plac
         let last = and_from (eqb a.place k.place) (eqb a.start k.start) (eq-eqb a.place k.place q) (eq-eqb a.start k.start r) in
         inl (key_eq a k p q r, cond-true (same_key a k) x (f a) (and_from (eqb a.comm k.comm) _ (eq-eqb a.comm k.comm p) last))
     go (inr p) q r = off (λ e. p (ap (λ (k : Key). k.comm) e)) (and_left (eqb a.comm k.comm) _ (ne_eqb a.comm k.comm p))
-    go (inl p) (inr q) r = off (λ e. q (ap (λ (k : Key). k.place) e)) (and_right (eqb a.comm k.comm) _ (and_left (eqb a.place k.place) (eqb a.start k.start) (ne_eqb a.place k.place q)))
-    go (inl p) (inl q) (inr r) = off (λ e. r (ap (λ (k : Key). k.start) e)) (and_right (eqb a.comm k.comm) _ (and_right (eqb a.place k.place) (eqb a.start k.start) (ne_eqb a.start k.start r)))
+    go (inl p) (inr q) r =
+        off (λ e. q (ap (λ (k : Key). k.place) e))
+        (and_right (eqb a.comm k.comm) _ (and_left (eqb a.place k.place) (eqb a.start k.start) (ne_eqb a.place k.place q)))
+    go (inl p) (inl q) (inr r) =
+        off (λ e. r (ap (λ (k : Key). k.start) e))
+        (and_right (eqb a.comm k.comm) _ (and_right (eqb a.place k.place) (eqb a.start k.start) (ne_eqb a.start k.start r)))

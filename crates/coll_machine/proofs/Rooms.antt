@@ -4,7 +4,8 @@ use Rattle.coll_kinds.specs.declared.kind.Mode.{Mode}
 use Rattle.coll_kinds.specs.declared.kind.Mode.TheVariants.{Once, Persistent}
 use Rattle.coll_kinds.specs.Common.{put, mode_number}
 use Rattle.coll_kinds.proofs.Puts.{put_same}
-use Rattle.coll_machine.specs.Common.{Setting, Request, State, nothing, key_of, new_request, once_more, rested, rested_by, holding, Clears, Entry, Posted, Inited, Started, Retired, Freed, reserved, Enters, over_slots}
+use Rattle.coll_machine.specs.Common.{Setting, Request, State, nothing, key_of, new_request, once_more, rested, rested_by, holding, Clears, Entry}
+use Rattle.coll_machine.specs.Common.{Posted, Inited, Started, Retired, Freed, reserved, Enters, over_slots}
 use Rattle.coll_machine.specs.Traces.{reserved_for}
 use Rattle.coll_machine.specs.Laws.{ReservedChanges, HasRoom, LegalGoesOn}
 use Rattle.coll_machine.proofs.Pushed.{length_pushed}
@@ -30,16 +31,20 @@ pub reserved_changes : ReservedChanges
 reserved_changes g s u es (Posted rank t comm place sig bytes) l h =
     let p = h.2 in
     let q : Request = new_request rank comm p.member place Once in
-    let one : total g (put s.request t.slot (Some q)) + reserved_for (s.request t.slot) ≡ total g s.request + 0 = over_put reserved_for s.request t.slot (Some q) g.slots p.new.low in
-    let two : total g (put (put s.request t.slot (Some q)) t.slot (Some (once_more q))) + reserved_for (put s.request t.slot (Some q) t.slot) ≡ total g (put s.request t.slot (Some q)) + 1 = over_put reserved_for (put s.request t.slot (Some q)) t.slot (Some (once_more q)) g.slots p.new.low in
+    let one : total g (put s.request t.slot (Some q)) + reserved_for (s.request t.slot) ≡ total g s.request + 0 =
+    over_put reserved_for s.request t.slot (Some q) g.slots p.new.low in
+    let two : total g (put (put s.request t.slot (Some q)) t.slot (Some (once_more q))) + reserved_for (put s.request t.slot (Some q) t.slot)
+    ≡ total g (put s.request t.slot (Some q)) + 1 = over_put reserved_for (put s.request t.slot (Some q)) t.slot (Some (once_more q)) g.slots p.new.low in
     let spare : reserved_for (s.request t.slot) ≡ 0 = ap reserved_for p.new.spare in
     let idle : reserved_for (put s.request t.slot (Some q) t.slot) ≡ 0 = ap reserved_for (put_same s.request t.slot (Some q)) in
-    let leaves : total g u.request ≡ total g (put (put s.request t.slot (Some q)) t.slot (Some (once_more q))) = ap (λ (s : State). total g s.request) p.leaves in
+    let leaves : total g u.request ≡ total g (put (put s.request t.slot (Some q)) t.slot (Some (once_more q))) =
+    ap (λ (s : State). total g s.request) p.leaves in
     omega arith
 reserved_changes g s u es (Inited rank t comm place sig) l h =
     let p = h.2 in
     let q : Request = new_request rank comm p.member place Persistent in
-    let one : total g (put s.request t.slot (Some q)) + reserved_for (s.request t.slot) ≡ total g s.request + 1 = over_put reserved_for s.request t.slot (Some q) g.slots p.new.low in
+    let one : total g (put s.request t.slot (Some q)) + reserved_for (s.request t.slot) ≡ total g s.request + 1 =
+    over_put reserved_for s.request t.slot (Some q) g.slots p.new.low in
     let spare : reserved_for (s.request t.slot) ≡ 0 = ap reserved_for p.new.spare in
     let leaves : total g u.request ≡ total g (put s.request t.slot (Some q)) = ap (λ (s : State). total g s.request) p.leaves in
     omega arith
@@ -47,15 +52,18 @@ reserved_changes g s u es (Started rank t start bytes) l p =
     let q = p.request in
     let here = (found_is s t q p.is).1 in
     let low = live_low g s es l t.slot q here in
-    let one : total g (put s.request t.slot (Some (once_more q))) + reserved_for (s.request t.slot) ≡ total g s.request + (1 + freed_later q.mode) = over_put reserved_for s.request t.slot (Some (once_more q)) g.slots low in
-    let idle : reserved_for (s.request t.slot) ≡ 0 + freed_later q.mode = ap reserved_for here ∙ reserved_idle q _ (started_mine g s rank t bytes q p.is p.accepted).idle in
+    let one : total g (put s.request t.slot (Some (once_more q))) + reserved_for (s.request t.slot) ≡ total g s.request + (1 + freed_later q.mode) =
+    over_put reserved_for s.request t.slot (Some (once_more q)) g.slots low in
+    let idle : reserved_for (s.request t.slot) ≡ 0 + freed_later q.mode =
+    ap reserved_for here ∙ reserved_idle q _ (started_mine g s rank t bytes q p.is p.accepted).idle in
     let leaves : total g u.request ≡ total g (put s.request t.slot (Some (once_more q))) = ap (λ (s : State). total g s.request) p.leaves in
     omega arith
 reserved_changes g s u es (Retired rank t comm place start bytes) l p =
     let q = p.request in
     let here = (found_is s t q p.is).1 in
     let low = live_low g s es l t.slot q here in
-    let one : total g (put s.request t.slot (rested q)) + reserved_for (s.request t.slot) ≡ total g s.request + reserved_for (rested q) = over_put reserved_for s.request t.slot (rested q) g.slots low in
+    let one : total g (put s.request t.slot (rested q)) + reserved_for (s.request t.slot) ≡ total g s.request + reserved_for (rested q) =
+    over_put reserved_for s.request t.slot (rested q) g.slots low in
     let was : reserved_for (s.request t.slot) ≡ 1 + freed_later q.mode = ap reserved_for here ∙ reserved_idle q _ p.ready.active in
     let is : reserved_for (rested q) ≡ 0 + freed_later q.mode = reserved_rested q q.mode refl in
     let leaves : total g u.request ≡ total g (put s.request t.slot (rested q)) = go p.leaves in
@@ -67,7 +75,8 @@ reserved_changes g s u es (Retired rank t comm place start bytes) l p =
 reserved_changes g s u es (Freed rank t) l p =
     let f = freed_mine g s rank t p.accepted in
     let low = live_low g s es l t.slot f.request f.is in
-    let one : total g (put s.request t.slot None) + reserved_for (s.request t.slot) ≡ total g s.request + 0 = over_put reserved_for s.request t.slot None g.slots low in
+    let one : total g (put s.request t.slot None) + reserved_for (s.request t.slot) ≡ total g s.request + 0 =
+    over_put reserved_for s.request t.slot None g.slots low in
     let idle : reserved_for (s.request t.slot) ≡ 0 + 1 = ap reserved_for f.is ∙ (λ z. cond (f.idle_of.idle z) 1 0 + freed_later (f.idle_of.mode_is z)) in
     let leaves : total g u.request ≡ total g (put s.request t.slot None) = ap (λ (s : State). total g s.request) p.leaves in
     omega arith

@@ -2,7 +2,8 @@
 use Rattle.std.proofs.Common.{◌≡◌, ℕ, ◌⊎◌, inl, inr, Bool, true, false, List, [], ◌∷◌, refl, sym, ap, ◌∙◌}
 use Rattle.coll_kinds.specs.Puts.{put}
 use Rattle.coll_kinds.proofs.Puts.{put_same, put_other, put_cases}
-use Rattle.coll_machine.specs.Common.{Setting, State, Machine, nothing, phased, post, init, start, finish, retire, free, Event, Runs, Entry, Posted, Inited, Started, Retired, Freed, Leads}
+use Rattle.coll_machine.specs.Common.{Setting, State, Machine, nothing, phased, post, init, start, finish, retire, free, Event, Runs, Entry, Posted}
+use Rattle.coll_machine.specs.Common.{Inited, Started, Retired, Freed, Leads}
 use Rattle.coll_machine.specs.Calls as calls
 use Rattle.coll_machine.specs.Laws.{Shows, TracesAreRun}
 use Rattle.coll_machine.proofs.Accepted.{found_is}
@@ -23,7 +24,8 @@ record RunOf (g : Setting) (s u : State) (done : ℕ → Bool) (es : List Entry)
 done_again : (done : ℕ → Bool) (slot : ℕ) → NoneDone done → NoneDone (put (put done slot true) slot false)
 done_again done slot none i = go (put_cases (put done slot true) slot false i)
   where
-    go : ((i ≡ slot) × (put (put done slot true) slot false i ≡ false)) ⊎ ((i ≡ slot → ⊥) × (put (put done slot true) slot false i ≡ put done slot true i)) → put (put done slot true) slot false i ≡ false
+    go : ((i ≡ slot) × (put (put done slot true) slot false i ≡ false)) ⊎ ((i ≡ slot → ⊥) × (put (put done slot true) slot false i ≡ put done slot true i))
+        → put (put done slot true) slot false i ≡ false
     go (inl a) = a.1
     go (inr a) = a.1 ∙ (put_other done slot true i a.0 ∙ none i)
 
@@ -62,11 +64,21 @@ run_of g (Retired rank t comm place begin bytes ∷ es) s u done none l =
     let e = l.1 in
     let r = run_of g es l.0 u (put (put done t.slot true) t.slot false) (done_again done t.slot none) l.2 in
     record {
-      events = record { call = calls.Finish; reply = calls.Nothing } ∷ record { call = calls.Retire rank t; reply = calls.Outcome rank comm place begin bytes } ∷ r.events;
+      events = record { call = calls.Finish; reply = calls.Nothing }
+          ∷ record { call = calls.Retire rank t; reply = calls.Outcome rank comm place begin bytes } ∷ r.events;
       last = r.last;
       runs = (
         phased s (put done t.slot true),
-        finish t.slot (record { request = e.request; sig = e.sig; start = begin; is = (found_is s t e.request e.is).1; pending = none t.slot; ready = e.ready; leaves = refl }),
+        finish t.slot (record {
+          request = e.request;
+          sig = e.sig;
+          start = begin;
+          is = (found_is s t e.request e.is).1;
+          pending =
+              none t.slot;
+          ready = e.ready;
+          leaves = refl;
+        }),
         (phased l.0 (put (put done t.slot true) t.slot false), retire rank t comm place begin bytes e (put_same done t.slot true), r.runs),
       );
       shows = ([], Retired rank t comm place begin bytes ∷ es, refl, (Retired rank t comm place begin bytes ∷ [], es, refl, r.shows, refl), refl);

@@ -5,7 +5,8 @@ use Rattle.std.proofs.lemmas.Bool.{cases_eq}
 use Rattle.coll_kinds.specs.declared.kind.Mode.TheVariants.{Once, Persistent}
 use Rattle.coll_kinds.specs.Puts.{put}
 use Rattle.coll_kinds.proofs.Puts.{put_other, put_at, put_cases}
-use Rattle.coll_machine.specs.Common.{Setting, Request, State, nothing, key_of, new_request, created, once_more, started, rested, holding, forgotten, Clears, Entry, Posted, Inited, Started, Retired, Freed, Enters, Leads, over_slots}
+use Rattle.coll_machine.specs.Common.{Setting, Request, State, nothing, key_of, new_request, created, once_more, started, rested, holding, forgotten}
+use Rattle.coll_machine.specs.Common.{Clears, Entry, Posted, Inited, Started, Retired, Freed, Enters, Leads, over_slots}
 use Rattle.coll_machine.proofs.Accepted.{found_is}
 
 abbrev pub Slots : Type 0
@@ -17,7 +18,8 @@ over_above f request i o (suc n) le =
     (λ z. over_above f request i o n (omega arith) z + f (put_other request i o n (λ e. absurd (omega arith)) z))
 
 -- one slot changes
-pub over_put : (f : Option Request → ℕ) (request : Slots) (i : ℕ) (o : Option Request) (n : ℕ) → i < n → over_slots f (put request i o) n + f (request i) ≡ over_slots f request n + f o
+pub over_put : (f : Option Request → ℕ) (request : Slots) (i : ℕ) (o : Option Request) (n : ℕ) → i < n
+    → over_slots f (put request i o) n + f (request i) ≡ over_slots f request n + f o
 over_put f request i o zero lt = absurd (omega arith)
 over_put f request i o (suc n) lt = go (cases_eq i n) (λ low. over_put f request i o n low)
   where
@@ -35,7 +37,8 @@ over_put f request i o (suc n) lt = go (cases_eq i n) (λ low. over_put f reques
         omega arith
 
 -- another measure that is the same of each slot
-pub over_same : (f h : Option Request → ℕ) (request : Slots) (n : ℕ) → ((i : ℕ) → f (request i) ≡ h (request i)) → over_slots f request n ≡ over_slots h request n
+pub over_same : (f h : Option Request → ℕ) (request : Slots) (n : ℕ) → ((i : ℕ) → f (request i) ≡ h (request i))
+    → over_slots f request n ≡ over_slots h request n
 over_same f h request zero same = refl
 over_same f h request (suc n) same = λ z. over_same f h request n same z + same n z
 
@@ -44,7 +47,8 @@ over_same f h request (suc n) same = λ z. over_same f h request n same z + same
 abbrev pub AreLow : Setting → State → Type 0
 AreLow g s = (i : ℕ) (q : Request) → s.request i ≡ Some q → i < g.slots
 
-pub low_put : (g : Setting) (request : Slots) (slot : ℕ) (o : Option Request) → ((i : ℕ) (q : Request) → request i ≡ Some q → i < g.slots) → ((q : Request) → o ≡ Some q → slot < g.slots)
+pub low_put : (g : Setting) (request : Slots) (slot : ℕ) (o : Option Request)
+    → ((i : ℕ) (q : Request) → request i ≡ Some q → i < g.slots) → ((q : Request) → o ≡ Some q → slot < g.slots)
     → (i : ℕ) (q : Request) → put request slot o i ≡ Some q → i < g.slots
 low_put g request slot o low here i q e = go (put_cases request slot o i)
   where
@@ -59,13 +63,15 @@ low_enters : (g : Setting) (s u : State) (e : Entry) → AreLow g s → Enters g
 low_enters g s u (Posted rank t comm place sig bytes) low h =
     let p = h.2 in
     let q = new_request rank comm p.member place Once in
-    low_at g (started (created s t q h.0.sig) t.slot q bytes) u p.leaves (low_put g (put s.request t.slot (Some q)) t.slot (Some (once_more q)) (low_put g s.request t.slot (Some q) low (λ _ _. p.new.low)) (λ _ _. p.new.low))
+    low_at g (started (created s t q h.0.sig) t.slot q bytes) u p.leaves
+    (low_put g (put s.request t.slot (Some q)) t.slot (Some (once_more q)) (low_put g s.request t.slot (Some q) low (λ _ _. p.new.low)) (λ _ _. p.new.low))
 low_enters g s u (Inited rank t comm place sig) low h =
     let p = h.2 in
     let q = new_request rank comm p.member place Persistent in
     low_at g (created s t q h.0.sig) u p.leaves (low_put g s.request t.slot (Some q) low (λ _ _. p.new.low))
 low_enters g s u (Started rank t start bytes) low h =
-    low_at g (started s t.slot h.request bytes) u h.leaves (low_put g s.request t.slot (Some (once_more h.request)) low (λ _ _. low t.slot h.request (found_is s t h.request h.is).1))
+    low_at g (started s t.slot h.request bytes) u h.leaves
+    (low_put g s.request t.slot (Some (once_more h.request)) low (λ _ _. low t.slot h.request (found_is s t h.request h.is).1))
 low_enters g s u (Retired rank t comm place start bytes) low h = go h.leaves
   where
     held : AreLow g (holding s t.slot (rested h.request))

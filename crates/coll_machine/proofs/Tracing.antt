@@ -2,7 +2,8 @@
 use Rattle.std.proofs.Common.{List, [], ◌∷◌, ◌++◌, refl, sym, ap, subst}
 use Rattle.coll_kinds.specs.declared.refusal.Refusal.{Refusal}
 use Rattle.coll_kinds.specs.declared.refusal.Refusal.TheVariants.{NoMemory}
-use Rattle.coll_machine.specs.Common.{Setting, State, Machine, nothing, Call, Entry, Posted, Inited, Started, Retired, Freed, MachineStep, post, init, start, finish, retire, wait, free, refuse, short, Event, Runs, Enters, Leads}
+use Rattle.coll_machine.specs.Common.{Setting, State, Machine, nothing, Call, Entry, Posted, Inited, Started, Retired, Freed, MachineStep, post, init}
+use Rattle.coll_machine.specs.Common.{start, finish, retire, wait, free, refuse, short, Event, Runs, Enters, Leads}
 use Rattle.coll_machine.specs.Calls as calls
 use Rattle.coll_machine.specs.Laws.{Adds, StepsAreTraced, Shows, RunsAreTraced}
 
@@ -26,11 +27,14 @@ adds_none (calls.Free rank t) why = refl
 adds_none calls.Finish why = refl
 
 pub step_of : (g : Setting) (m n : Machine) (call : Call) (reply : calls.Reply) → MachineStep g m call reply n → Step g m.state n.state call reply
-step_of g _ _ _ _ (post {s} {u} {done} rank comm place plan bytes t h) = record { added = Posted rank t comm place plan.sig bytes ∷ []; adds = (place, refl); leads = (u, (plan, refl, h), refl) }
-step_of g _ _ _ _ (init {s} {u} {done} rank comm place plan t h) = record { added = Inited rank t comm place plan.sig ∷ []; adds = (place, refl); leads = (u, (plan, refl, h), refl) }
+step_of g _ _ _ _ (post {s} {u} {done} rank comm place plan bytes t h) =
+    record { added = Posted rank t comm place plan.sig bytes ∷ []; adds = (place, refl); leads = (u, (plan, refl, h), refl) }
+step_of g _ _ _ _ (init {s} {u} {done} rank comm place plan t h) =
+    record { added = Inited rank t comm place plan.sig ∷ []; adds = (place, refl); leads = (u, (plan, refl, h), refl) }
 step_of g _ _ _ _ (start {s} {u} {done} rank begin t bytes h) = record { added = Started rank t begin bytes ∷ []; adds = (begin, refl); leads = (u, h, refl) }
 step_of g _ _ _ _ (finish {m} {done} slot h) = record { added = []; adds = refl; leads = refl }
-step_of g _ _ _ _ (retire {s} {u} {done} rank t comm place begin bytes h d) = record { added = Retired rank t comm place begin bytes ∷ []; adds = refl; leads = (u, h, refl) }
+step_of g _ _ _ _ (retire {s} {u} {done} rank t comm place begin bytes h d) =
+    record { added = Retired rank t comm place begin bytes ∷ []; adds = refl; leads = (u, h, refl) }
 step_of g _ _ _ _ (wait {m} rank t h d) = record { added = []; adds = refl; leads = refl }
 step_of g _ _ _ _ (free {s} {u} {done} rank t h) = record { added = Freed rank t ∷ []; adds = refl; leads = (u, h, refl) }
 step_of g _ _ _ _ (refuse {m} call why h) = record { added = []; adds = adds_none call why; leads = refl }

@@ -5,7 +5,8 @@ pub use Rattle.coll_machine.specs.Entries.{Entry, Freed, Inited, Posted, Retired
 pub use Rattle.coll_machine.specs.Lents.{lent_bytes}
 pub use Rattle.coll_machine.specs.Machines.{MachineStep, MayFinish, StepsTo, finish, free, init, phased, post, refuse, retire, short, start, wait}
 pub use Rattle.coll_machine.specs.Postings.{ArePosted, IsPosted}
-pub use Rattle.coll_machine.specs.Refusals.{first_of, first_there, idle_refusals, mismatch_in, naming_refusals, plan_refusals, refusal, refusals, start_refusals, unless, unseated, wrong_length}
+pub use Rattle.coll_machine.specs.Refusals.{first_of, first_there, idle_refusals, mismatch_in, naming_refusals, plan_refusals, refusal, refusals}
+pub use Rattle.coll_machine.specs.Refusals.{start_refusals, unless, unseated, wrong_length}
 pub use Rattle.coll_machine.specs.Reports.{posts_of}
 pub use Rattle.coll_machine.specs.Rows.{barrier, bcast, freed, gather, i32, key, late_bcast, left_late, plan, ticket, two_ranks, two_starts}
 pub use Rattle.coll_machine.specs.Runs.{Event, Runs, opened}

@@ -1,12 +1,14 @@
 -- Why a call is refused: of the conditions on its list, in the order of the list, the first that holds.
-use Rattle.std.specs.Prelude.{◌==◌, ◌&&◌, ℕ, zero, suc, ◌+◌, nat_lt, Bool, not, List, [], ◌∷◌, ◌++◌, length, slice_get, slice_index, unwrap_or, Option, Some, None, is_some, is_none, option_map, option_and_then, if◌then◌else◌}
+use Rattle.std.specs.Prelude.{◌==◌, ◌&&◌, ℕ, zero, suc, ◌+◌, nat_lt, Bool, not, List, [], ◌∷◌, ◌++◌, length, slice_get, slice_index, unwrap_or}
+use Rattle.std.specs.Prelude.{Option, Some, None, is_some, is_none, option_map, option_and_then, if◌then◌else◌}
 use Rattle.std.specs.Option.{option_or}
 use Rattle.std.specs.List.{list_any, range_with_len}
 use Rattle.coll_kinds.specs.declared.kind.Mode.{Mode}
 use Rattle.coll_kinds.specs.declared.kind.Mode.TheVariants.{Once, Persistent}
 use Rattle.coll_kinds.specs.declared.signature.Signature.{Signature}
 use Rattle.coll_kinds.specs.declared.refusal.Refusal.{Refusal}
-use Rattle.coll_kinds.specs.declared.refusal.Refusal.TheVariants.{BadComm, NotMember, BadSignature, BadLength, Stale, NotYours, Active, NotPersistent, PlacesUsed, StartsUsed, Full}
+use Rattle.coll_kinds.specs.declared.refusal.Refusal.TheVariants.{BadComm, NotMember, BadSignature, BadLength, Stale, NotYours, Active, NotPersistent}
+use Rattle.coll_kinds.specs.declared.refusal.Refusal.TheVariants.{PlacesUsed, StartsUsed, Full}
 use Rattle.coll_kinds.specs.declared.refusal.SignatureFault.TheVariants.{Mode as WrongMode, Group as WrongGroup}
 use Rattle.coll_kinds.specs.Common.{mismatch_at, broken, member_of, given_len, mode_number, same_signature}
 use Rattle.coll_machine.specs.Settings.{Setting, group, group_in, size}

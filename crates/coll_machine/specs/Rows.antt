@@ -7,7 +7,8 @@ use Rattle.coll_kinds.specs.declared.kind.Mode.TheVariants.{Once, Persistent}
 use Rattle.coll_kinds.specs.declared.signature.Signature.{Signature}
 use Rattle.coll_kinds.specs.declared.ticket.Ticket.{Ticket}
 use Rattle.coll_kinds.specs.Refusals.{mismatch_at}
-use Rattle.coll_kinds.specs.declared.refusal.Refusal.TheVariants.{BadComm, NotMember, BadSignature, BadLength, Stale, NotYours, Active, NotPersistent, PlacesUsed, StartsUsed, Full}
+use Rattle.coll_kinds.specs.declared.refusal.Refusal.TheVariants.{BadComm, NotMember, BadSignature, BadLength, Stale, NotYours, Active, NotPersistent}
+use Rattle.coll_kinds.specs.declared.refusal.Refusal.TheVariants.{PlacesUsed, StartsUsed, Full}
 use Rattle.coll_kinds.specs.declared.refusal.SignatureFault.TheVariants.{Root, Mode as WrongMode, Group as WrongGroup}
 use Rattle.coll_ops.specs.Values.{value}
 use Rattle.coll_machine.specs.Settings.{Setting}

@@ -1,5 +1,7 @@
 -- The messages of one member, as a map's entries.
-use Rattle.std.proofs.Common.{◌≡◌, ℕ, ◌<◌, ◌+◌, not, subst, one-add, lt-ltb, le-ltb, inl, inr, true≢false, zero, suc, Bool, true, false, cond, ◌&&◌, ◌||◌, ◌==◌, List, [], ◌∷◌, ◌++◌, length, get_or, remove, nat_lt, position, refl, sym, ap, ◌∙◌, Option, Some, None, is_some, arith, eq-eqb, eqb-true}
+use Rattle.std.proofs.Common.{◌≡◌, ℕ, ◌<◌, ◌+◌, not, subst, one-add, lt-ltb, le-ltb, inl, inr, true≢false, zero, suc, Bool, true, false, cond, ◌&&◌}
+use Rattle.std.proofs.Common.{◌||◌, ◌==◌, List, [], ◌∷◌, ◌++◌, length, get_or, remove, nat_lt, position, refl, sym, ap, ◌∙◌, Option, Some, None}
+use Rattle.std.proofs.Common.{is_some, arith, eq-eqb, eqb-true}
 use Rattle.std.specs.Map.{keys_of, lookup, remove_entry}
 use Rattle.std.specs.List.{list_any, position_or_len, AllByRecursion, IsDistinct}
 use Rattle.std.specs.Cmp.{IsEquivalence}
@@ -55,7 +57,8 @@ module _ (w : Envelope) where
     pub rest : messages_of (remove xs i) ≡ remove_entry (same_envelope w) (messages_of xs)
 
   -- the first that is it, and what is left without it
-  pub found_at : (xs : List Unreceived) (i : ℕ) (d : Unreceived) → i < length xs → is_it (get_or xs i d) ≡ true → ((k : ℕ) → k < i → is_it (get_or xs k d) ≡ false) → FoundAt xs i d
+  pub found_at : (xs : List Unreceived) (i : ℕ) (d : Unreceived) → i < length xs → is_it (get_or xs i d) ≡ true
+      → ((k : ℕ) → k < i → is_it (get_or xs k d) ≡ false) → FoundAt xs i d
   found_at [] i d low here before = absurd (omega (arith, low))
   found_at (x ∷ xs) zero d low here before = record {
     value = λ z. cond (here z) (Some x.bytes) (lookup (same_envelope w) (messages_of xs));
@@ -93,7 +96,8 @@ module _ (w : Envelope) where
 
 -- ---- a message more, and one less
 
-step : (qe qw : Bool) (v x : List ℕ) (l m : Option (List ℕ)) → (qw ≡ true → qe ≡ false) → m ≡ cond qw (Some x) l → cond qe (Some v) m ≡ cond qw (Some x) (cond qe (Some v) l)
+step : (qe qw : Bool) (v x : List ℕ) (l m : Option (List ℕ)) → (qw ≡ true → qe ≡ false) → m ≡ cond qw (Some x) l
+    → cond qe (Some v) m ≡ cond qw (Some x) (cond qe (Some v) l)
 step true true v x l m other ih = absurd (true≢false (other refl))
 step true false v x l m other ih = refl
 step false qw v x l m other ih = ih
@@ -126,14 +130,16 @@ none_apart = tt
 pub pushed_apart : (xs : List Unreceived) (y : Unreceived) → Apart xs → lookup (same_envelope y.envelope) (messages_of xs) ≡ None → Apart (xs ++ y ∷ [])
 pushed_apart xs y apart absent = subst (λ es. IsDistinct same_envelope (keys_of es)) (sym (map-append entry_of xs (y ∷ [])))
     (subst (IsDistinct same_envelope) (sym (map-append envelope_of (messages_of xs) ((y.envelope, y.bytes) ∷ [])))
-    (IsDistinct-push same_envelopes (keys_of (messages_of xs)) y.envelope apart (sym (is_some-lookup (same_envelope y.envelope) (messages_of xs)) ∙ ap is_some absent)))
+    (IsDistinct-push same_envelopes (keys_of (messages_of xs)) y.envelope apart
+    (sym (is_some-lookup (same_envelope y.envelope) (messages_of xs)) ∙ ap is_some absent)))
 
 pub sent_pushed : (xs : List Unreceived) (y : Unreceived) → lookup (same_envelope y.envelope) (messages_of xs) ≡ None
     → sent_in (messages_of (xs ++ y ∷ [])) ≡ put_sent (sent_in (messages_of xs)) y.envelope.to y.envelope.round (Some y.bytes)
 sent_pushed xs y absent = λ z b c. (ap (lookup (same_envelope (record { to = b; round = c }))) (map-append entry_of xs (y ∷ []))
     ∙ lookup-push (record { to = b; round = c }) y.envelope y.bytes (messages_of xs) absent) z
 
-all_left : (P : Envelope → Type 0) (test : Envelope → Bool) (es : List (Envelope × List ℕ)) → AllByRecursion P (keys_of es) → AllByRecursion P (keys_of (remove_entry test es))
+all_left : (P : Envelope → Type 0) (test : Envelope → Bool) (es : List (Envelope × List ℕ)) → AllByRecursion P (keys_of es)
+    → AllByRecursion P (keys_of (remove_entry test es))
 all_left P test [] h = h
 all_left P test (e ∷ es) h = by (all_left P test es h.1) (test e.0)
   where
@@ -141,7 +147,8 @@ all_left P test (e ∷ es) h = by (all_left P test es h.1) (test e.0)
     by rest true = h.1
     by rest false = (h.0, rest)
 
-distinct_left : (test : Envelope → Bool) (es : List (Envelope × List ℕ)) → IsDistinct same_envelope (keys_of es) → IsDistinct same_envelope (keys_of (remove_entry test es))
+distinct_left : (test : Envelope → Bool) (es : List (Envelope × List ℕ)) → IsDistinct same_envelope (keys_of es)
+    → IsDistinct same_envelope (keys_of (remove_entry test es))
 unfolding IsDistinct
 distinct_left test [] h = h
 distinct_left test (e ∷ es) h = by (distinct_left test es h.1) (test e.0)
@@ -151,7 +158,8 @@ distinct_left test (e ∷ es) h = by (distinct_left test es h.1) (test e.0)
     by rest false = (all_left (λ y. same_envelope e.0 y ≡ false) test es h.0, rest)
 
 pub removed_apart : (w : Envelope) (xs : List Unreceived) (i : ℕ) (d : Unreceived) → Apart xs → FoundAt w xs i d → Apart (remove xs i)
-removed_apart w xs i d apart found = subst (λ es. IsDistinct same_envelope (keys_of es)) (sym found.rest) (distinct_left (same_envelope w) (messages_of xs) apart)
+removed_apart w xs i d apart found =
+    subst (λ es. IsDistinct same_envelope (keys_of es)) (sym found.rest) (distinct_left (same_envelope w) (messages_of xs) apart)
 
 pub sent_removed : (w : Envelope) (xs : List Unreceived) (i : ℕ) (d : Unreceived) → Apart xs → FoundAt w xs i d
     → sent_in (messages_of (remove xs i)) ≡ put_sent (sent_in (messages_of xs)) w.to w.round None

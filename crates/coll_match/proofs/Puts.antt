@@ -1,5 +1,6 @@
 -- Functions with another value at one argument.
-use Rattle.std.proofs.Common.{◌≡◌, ℕ, ◌<◌, Bool, true, false, cond, eqb, List, length, set, get_or, refl, sym, ap, ◌∙◌, Option, Some, inl, inr, arith, eq-eqb, ne_eqb}
+use Rattle.std.proofs.Common.{◌≡◌, ℕ, ◌<◌, Bool, true, false, cond, eqb, List, length, set, get_or, refl, sym, ap, ◌∙◌, Option, Some, inl, inr, arith}
+use Rattle.std.proofs.Common.{eq-eqb, ne_eqb}
 use Rattle.std.specs.Prelude.{slice_get}
 use Rattle.std.specs.Map.{lookup}
 use Rattle.std.proofs.lemmas.Bool.{cases_eq, cases_lt}
@@ -23,10 +24,13 @@ cond_map g false x y = refl
 
 pub slice_get-set : {X : Type 0} (xs : List X) (i : ℕ) (x : X) → i < length xs → (m : ℕ) → slice_get (set xs i x) m ≡ put (slice_get xs) i (Some x) m
 slice_get-set xs i x low m = elim (cases_eq m i) [
-  | inl e ↦ slice_get-get_or (set xs i x) m x (omega (arith, e, low, length-set xs i x)) ∙ ap (λ k. Some (get_or (set xs i x) k x)) e ∙ ap Some (get_or-set_same xs i x x low) ∙ sym (put_at (slice_get xs) i (Some x) m e)
+  | inl e ↦ slice_get-get_or (set xs i x) m x (omega (arith, e, low, length-set xs i x))
+      ∙ ap (λ k. Some (get_or (set xs i x) k x)) e ∙ ap Some (get_or-set_same xs i x x low) ∙ sym (put_at (slice_get xs) i (Some x) m e)
   | inr d ↦ elim (cases_lt m (length xs)) [
-    | inl within ↦ slice_get-get_or (set xs i x) m x (omega (arith, within, length-set xs i x)) ∙ ap Some (get_or-set_other xs i m x x d) ∙ sym (slice_get-get_or xs m x within) ∙ sym (put_other (slice_get xs) i (Some x) m d)
-    | inr past ↦ slice_get_past (set xs i x) m (omega (arith, past, length-set xs i x)) ∙ sym (slice_get_past xs m past) ∙ sym (put_other (slice_get xs) i (Some x) m d)
+    | inl within ↦ slice_get-get_or (set xs i x) m x (omega (arith, within, length-set xs i x))
+        ∙ ap Some (get_or-set_other xs i m x x d) ∙ sym (slice_get-get_or xs m x within) ∙ sym (put_other (slice_get xs) i (Some x) m d)
+    | inr past ↦ slice_get_past (set xs i x) m (omega (arith, past, length-set xs i x)) ∙ sym (slice_get_past xs m past)
+        ∙ sym (put_other (slice_get xs) i (Some x) m d)
   ]
 ]
 

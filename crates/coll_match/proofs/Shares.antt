@@ -1,5 +1,6 @@
 -- The shares of an instance's members, and a change of one of them.
-use Rattle.std.proofs.Common.{◌≡◌, ℕ, ◌<◌, ◌≢◌, ◌==◌, Bool, true, false, cond, eqb-true, List, [], ◌∷◌, length, map, set, get_or, refl, sym, ap, ◌∙◌, Option, Some, None, zero, suc, replicate, arith}
+use Rattle.std.proofs.Common.{◌≡◌, ℕ, ◌<◌, ◌≢◌, ◌==◌, Bool, true, false, cond, eqb-true, List, [], ◌∷◌, length, map, set, get_or, refl, sym, ap, ◌∙◌}
+use Rattle.std.proofs.Common.{Option, Some, None, zero, suc, replicate, arith}
 use Rattle.std.proofs.lemmas.Bool.{and_from, and_parts}
 use Rattle.std.specs.Prelude.{slice_get, option_map, is_some, is_none, ◌&&◌}
 use Rattle.std.specs.List.{list_all}
@@ -19,14 +20,16 @@ module _ {X : Type 0} (f : Option Part → X) (shares : List Share) (i : ℕ) (s
       ∙ cond_map (λ o. f (option_map part_of o)) _ (Some share) (slice_get shares m)
       ∙ ap (λ g. put g i (f (Some (part_of share))) m) (λ z k. f (sym (slice_get-map part_of shares k) z))
 
-  pub parts_set : ◌≡◌ {A = ℕ → X} (λ m. f (slice_get (map part_of (set shares i share)) m)) (put (λ m. f (slice_get (map part_of shares) m)) i (f (Some (part_of share))))
+  pub parts_set : ◌≡◌ {A = ℕ → X} (λ m. f (slice_get (map part_of (set shares i share)) m))
+      (put (λ m. f (slice_get (map part_of shares) m)) i (f (Some (part_of share))))
   parts_set = λ z m. part_set m z
 
   pub part_read : (old : Share) → old ≡ get_or shares i old → f (slice_get (map part_of shares) i) ≡ f (Some (part_of old))
   part_read old is = ap f (slice_get-map part_of shares i ∙ ap (option_map part_of) (slice_get_read shares (length shares) i old refl low is))
 
   -- a share that shows the same
-  pub parts_kept : (old : Share) → old ≡ get_or shares i old → f (Some (part_of share)) ≡ f (Some (part_of old)) → ◌≡◌ {A = ℕ → X} (λ m. f (slice_get (map part_of (set shares i share)) m)) (λ m. f (slice_get (map part_of shares) m))
+  pub parts_kept : (old : Share) → old ≡ get_or shares i old → f (Some (part_of share)) ≡ f (Some (part_of old))
+      → ◌≡◌ {A = ℕ → X} (λ m. f (slice_get (map part_of (set shares i share)) m)) (λ m. f (slice_get (map part_of shares) m))
   parts_kept old is same = parts_set ∙ put_own (λ m. f (slice_get (map part_of shares) m)) i (f (Some (part_of share)))
       (same ∙ sym (part_read old is))
 
@@ -44,17 +47,24 @@ share_left None slot h = absurd (h.0 refl)
 share_left (Some bytes) None h = refl
 share_left (Some bytes) (Some slot) h = absurd (none-some slot (sym h.1))
 
-pub all_over : (shares : List Share) → list_all has_left shares ≡ true → (m : ℕ) → m < length shares → (contribution_of (slice_get (map part_of shares) m) ≢ None) × (slot_of (slice_get (map part_of shares) m) ≡ None)
+pub all_over : (shares : List Share) → list_all has_left shares ≡ true → (m : ℕ) → m < length shares
+    → (contribution_of (slice_get (map part_of shares) m) ≢ None) × (slot_of (slice_get (map part_of shares) m) ≡ None)
 all_over [] e m lt = absurd (omega (arith, lt))
 all_over (share ∷ shares) e zero lt = left_share share.given share.slot (and_parts (has_left share) (list_all has_left shares) e).0
 all_over (share ∷ shares) e (suc m) lt = all_over shares (and_parts (has_left share) (list_all has_left shares) e).1 m (omega (arith, lt))
 
-pub over_all : (shares : List Share) → ((m : ℕ) → m < length shares → (contribution_of (slice_get (map part_of shares) m) ≢ None) × (slot_of (slice_get (map part_of shares) m) ≡ None)) → list_all has_left shares ≡ true
+pub over_all : (shares : List Share)
+    → ((m : ℕ) → m < length shares → (contribution_of (slice_get (map part_of shares) m) ≢ None) × (slot_of (slice_get (map part_of shares) m) ≡ None))
+    → list_all has_left shares ≡ true
 over_all [] h = refl
-over_all (share ∷ shares) h = and_from (has_left share) (list_all has_left shares) (share_left share.given share.slot (h 0 (omega arith))) (over_all shares (λ m lt. h (suc m) (omega (arith, lt))))
+over_all (share ∷ shares) h =
+    and_from (has_left share) (list_all has_left shares) (share_left share.given share.slot (h 0 (omega arith)))
+    (over_all shares (λ m lt. h (suc m) (omega (arith, lt))))
 
 -- shares without anything
-pub empty_part : {X : Type 0} (f : Option Part → X) (y : X) → f None ≡ y → f (Some (record { contribution = None; slot = None; sent = [] })) ≡ y → (n m : ℕ) → f (slice_get (map part_of (replicate n (record { given = None; slot = None; mailbox = [] }))) m) ≡ y
+pub empty_part : {X : Type 0} (f : Option Part → X) (y : X) → f None ≡ y
+    → f (Some (record { contribution = None; slot = None; sent = [] })) ≡ y → (n m : ℕ)
+    → f (slice_get (map part_of (replicate n (record { given = None; slot = None; mailbox = [] }))) m) ≡ y
 empty_part f y none some zero m = none
 empty_part f y none some (suc n) zero = some
 empty_part f y none some (suc n) (suc m) = empty_part f y none some n m
@@ -91,10 +101,12 @@ low_share shares v member i e low is = omega (arith, low, is, ap (λ (h : Held).
 
 -- ---- a member's messages
 
-pub put_sender : (f : ℕ → ℕ → ℕ → Option (List ℕ)) (from to round : ℕ) (x : Option (List ℕ)) → put f from (put_sent (f from) to round x) ≡ put_mail f from to round x
+pub put_sender : (f : ℕ → ℕ → ℕ → Option (List ℕ)) (from to round : ℕ) (x : Option (List ℕ))
+    → put f from (put_sent (f from) to round x) ≡ put_mail f from to round x
 put_sender f from to round x = λ z a b c. at a b c z
   where
-    by : (here : Bool) (a b c : ℕ) → (here ≡ true → f from b c ≡ f a b c) → cond here (put_sent (f from) to round x) (f a) b c ≡ cond (here && ((b == to) && (c == round))) x (f a b c)
+    by : (here : Bool) (a b c : ℕ) → (here ≡ true → f from b c ≡ f a b c)
+        → cond here (put_sent (f from) to round x) (f a) b c ≡ cond (here && ((b == to) && (c == round))) x (f a b c)
     by true a b c same = ap (cond ((b == to) && (c == round)) x) (same refl)
     by false a b c same = refl
 

@@ -1,5 +1,6 @@
 -- The instances that stand, as a map's entries, and a change of one of them.
-use Rattle.std.proofs.Common.{◌≡◌, ◌≢◌, ℕ, ◌<◌, ◌≤◌, Bool, true, false, cond, ◌&&◌, eqb, List, [], ◌∷◌, length, Result, Ok, Err, refl, sym, ap, subst, ◌∙◌, Option, Some, None, inl, inr, arith}
+use Rattle.std.proofs.Common.{◌≡◌, ◌≢◌, ℕ, ◌<◌, ◌≤◌, Bool, true, false, cond, ◌&&◌, eqb, List, [], ◌∷◌, length, Result, Ok, Err, refl, sym, ap, subst}
+use Rattle.std.proofs.Common.{◌∙◌, Option, Some, None, inl, inr, arith}
 use Rattle.std.specs.Prelude.{◌==◌, is_some, unwrap_or, IfOk, OnOk, OnErr}
 use Rattle.std.specs.Cmp.{IsEquivalence}
 use Rattle.std.specs.Map.{lookup, set_value}
@@ -12,7 +13,8 @@ use Rattle.coll_machine.specs.declared.key.Key.{Key}
 use Rattle.coll_sched.specs.Worlds.{put_mail}
 use Rattle.coll_match.specs.Held.{Held, IsOver, contribution_of, slot_of, given_in, mail_in, seat_in}
 use Rattle.coll_machine.specs.Changes.{put_in, put_key, same_key}
-use Rattle.coll_match.specs.Instances.{IsLast, LookUps, dissolved, left, look_ups, mailed, seated, given, given_of, mail, mail_of, members, members_of, seats, seats_of, size, standing}
+use Rattle.coll_match.specs.Instances.{IsLast, LookUps, dissolved, left, look_ups, mailed, seated, given, given_of, mail, mail_of, members}
+use Rattle.coll_match.specs.Instances.{members_of, seats, seats_of, size, standing}
 use Rattle.coll_match.proofs.Puts.{cond_map, eqb_sym, updated}
 
 pub same_at : (a k : Key) → same_key a k ≡ true → a ≡ k
@@ -93,13 +95,17 @@ module _ (t : List (Key × Held)) (k : Key) (h w : Held) (was : Some h ≡ stand
   pub mail_kept : mail_in w ≡ mail_in h → mail written ≡ mail t
   mail_kept same = kept t written t refl k (Some w) Alters-written mail_of (same ∙ ap mail_of was)
 
-  pub mail_put : (from to round : ℕ) (x : Option (List ℕ)) → mail_in w ≡ put_mail (mail_in h) from to round x → mail written ≡ put_key (mail t) k (put_mail (mail t k) from to round x)
-  mail_put from to round x is = lifted t written t refl k (Some w) Alters-written mail_of ∙ ap (put_key (mail t) k) (is ∙ (λ z. put_mail (mail_of (was z)) from to round x))
+  pub mail_put : (from to round : ℕ) (x : Option (List ℕ)) → mail_in w ≡ put_mail (mail_in h) from to round x
+      → mail written ≡ put_key (mail t) k (put_mail (mail t k) from to round x)
+  mail_put from to round x is =
+      lifted t written t refl k (Some w) Alters-written mail_of ∙ ap (put_key (mail t) k) (is ∙ (λ z. put_mail (mail_of (was z)) from to round x))
 
   -- it was over with this member's leaving
-  pub last : (member : ℕ) (b : Bool) → length w.shares ≡ length h.shares → given_in w ≡ given_in h → seat_in w ≡ put (seat_in h) member None → (b ≡ true → IsOver w) × (IsOver w → b ≡ true)
+  pub last : (member : ℕ) (b : Bool) → length w.shares ≡ length h.shares → given_in w ≡ given_in h
+      → seat_in w ≡ put (seat_in h) member None → (b ≡ true → IsOver w) × (IsOver w → b ≡ true)
       → (b ≡ true → IsLast t k member) × (IsLast t k member → b ≡ true)
-  last member b len gave sat over = ((λ is m low. there m (over.0 is m (omega (arith, low, len, size_is)))), (λ is. over.1 (λ m low. back m (is m (omega (arith, low, len, size_is))))))
+  last member b len gave sat over =
+      ((λ is m low. there m (over.0 is m (omega (arith, low, len, size_is)))), (λ is. over.1 (λ m low. back m (is m (omega (arith, low, len, size_is))))))
     where
       size_is : size t k ≡ length h.shares
       size_is = ap (λ o. unwrap_or (members_of o) 0) (sym was)
@@ -146,8 +152,10 @@ nothing_stands t v e k absent = ap (λ t. standing t k) (sym e) ∙ none (standi
     none None is = refl
     none (Some h) is = absurd cc
 
-pub kept_members : (t v : List (Key × Held)) (e : t ≡ v) (k : Key) (n : ℕ) → is_some (standing t k) ≡ true → members v ≡ put_key (members v) k (Some (unwrap_or (members v k) n))
-kept_members t v e k n there = sym (put_key_own (members v) k (Some (unwrap_or (members v k) n)) (count (standing v k) (ap (λ t. is_some (standing t k)) (sym e) ∙ there)))
+pub kept_members : (t v : List (Key × Held)) (e : t ≡ v) (k : Key) (n : ℕ) → is_some (standing t k) ≡ true
+    → members v ≡ put_key (members v) k (Some (unwrap_or (members v k) n))
+kept_members t v e k n there =
+    sym (put_key_own (members v) k (Some (unwrap_or (members v k) n)) (count (standing v k) (ap (λ t. is_some (standing t k)) (sym e) ∙ there)))
   where
     count : (o : Option Held) → is_some o ≡ true → Some (unwrap_or (members_of o) n) ≡ members_of o
     count None is = absurd cc
@@ -156,7 +164,9 @@ kept_members t v e k n there = sym (put_key_own (members v) k (Some (unwrap_or (
 -- a new one, to which none has given
 module _ (t u v : List (Key × Held)) (e : t ≡ v) (k : Key) (w : Held) (absent : is_some (standing t k) ≡ false) (alters : Alters t u k (Some w)) where
   pub members_new : (n : ℕ) → length w.shares ≡ n → members u ≡ put_key (members v) k (Some (unwrap_or (members v k) n))
-  members_new n is = lifted t u v e k (Some w) alters members_of ∙ ap (λ m. put_key (members v) k (Some m)) (is ∙ ap (λ o. unwrap_or (members_of o) n) (sym (nothing_stands t v e k absent)))
+  members_new n is =
+      lifted t u v e k (Some w) alters members_of
+      ∙ ap (λ m. put_key (members v) k (Some m)) (is ∙ ap (λ o. unwrap_or (members_of o) n) (sym (nothing_stands t v e k absent)))
 
   pub given_new : given_in w ≡ (λ m. None) → given u ≡ given v
   given_new is = kept t u v e k (Some w) alters given_of (is ∙ ap given_of (sym (nothing_stands t v e k absent)))
@@ -168,8 +178,10 @@ module _ (t u v : List (Key × Held)) (e : t ≡ v) (k : Key) (w : Held) (absent
   mail_new is = kept t u v e k (Some w) alters mail_of (is ∙ ap mail_of (sym (nothing_stands t v e k absent)))
 
 -- taking what isn't there
-pub mail_missing : (t v : List (Key × Held)) (e : t ≡ v) (k : Key) (from to round : ℕ) → is_some (standing t k) ≡ false → mail v ≡ put_key (mail v) k (put_mail (mail v k) from to round None)
-mail_missing t v e k from to round absent = sym (put_key_own (mail v) k (put_mail (mail v k) from to round None) (same (standing v k) (nothing_stands t v e k absent)))
+pub mail_missing : (t v : List (Key × Held)) (e : t ≡ v) (k : Key) (from to round : ℕ) → is_some (standing t k) ≡ false
+    → mail v ≡ put_key (mail v) k (put_mail (mail v k) from to round None)
+mail_missing t v e k from to round absent =
+    sym (put_key_own (mail v) k (put_mail (mail v k) from to round None) (same (standing v k) (nothing_stands t v e k absent)))
   where
     at : (b : Bool) → ◌≡◌ {A = Option (List ℕ)} (cond b None None) None
     at true = refl
@@ -184,7 +196,8 @@ pub set_value_own : {K X : Type 0} (test : K → Bool) (es : List (K × X)) (w :
 set_value_own test [] w is = refl
 set_value_own {K} {X} test (e ∷ es) w is = go (set_value_own test es w) (test e.0) is
   where
-    go : (Some w ≡ lookup test es → set_value test es w ≡ es) → (b : Bool) → Some w ≡ cond b (Some e.1) (lookup test es) → cond b ((e.0, w) ∷ es) (e ∷ set_value test es w) ≡ e ∷ es
+    go : (Some w ≡ lookup test es → set_value test es w ≡ es) → (b : Bool) → Some w ≡ cond b (Some e.1) (lookup test es)
+        → cond b ((e.0, w) ∷ es) (e ∷ set_value test es w) ≡ e ∷ es
     go rest true same = λ z. (e.0, same_Some w e.1 same z) ∷ es
     go rest false later = ap (λ xs. e ∷ xs) (rest later)
 
@@ -214,7 +227,8 @@ nobody_sits v k member last = λ z m. sym (at m) z
       ]
     ]
 
-pub left_last : (t : List (Key × Held)) (k : Key) (member : ℕ) → IsLast t k member → dissolved (seated (look_ups t) k member None) k ≡ left (look_ups t) k member true
+pub left_last : (t : List (Key × Held)) (k : Key) (member : ℕ) → IsLast t k member
+    → dissolved (seated (look_ups t) k member None) k ≡ left (look_ups t) k member true
 left_last t k member last =
     let none = put_key_twice (seats t) k (put (seats t k) member None) (λ m. None) ∙ ap (put_key (seats t) k) (nobody_sits t k member last) in
     λ z. record { members = put_key (members t) k None; given = put_key (given t) k (λ m. None); seats = none z; mail = put_key (mail t) k (λ a b c. None) }
@@ -239,8 +253,10 @@ module _ (t : List (Key × Held)) (k : Key) (h w : Held) (was : Some h ≡ stand
     mail = mail_put t k h w was from to round x d z;
   }
 
-pub put_kept : {T E : Type 0} (r : Result T E) (t : List (Key × Held)) (k : Key) (h w : Held) (was : Some h ≡ standing t k) (from to round : ℕ) (x : Option (List ℕ))
-    → OnOk r (length w.shares ≡ length h.shares) → OnOk r (given_in w ≡ given_in h) → OnOk r (seat_in w ≡ seat_in h) → OnOk r (mail_in w ≡ put_mail (mail_in h) from to round x)
+pub put_kept : {T E : Type 0} (r : Result T E) (t : List (Key × Held)) (k : Key) (h w : Held) (was : Some h ≡ standing t k)
+    (from to round : ℕ) (x : Option (List ℕ))
+    → OnOk r (length w.shares ≡ length h.shares) → OnOk r (given_in w ≡ given_in h) → OnOk r (seat_in w ≡ seat_in h)
+    → OnOk r (mail_in w ≡ put_mail (mail_in h) from to round x)
     → OnOk r (look_ups (written t k h w was) ≡ mailed (look_ups t) k from to round x)
 put_kept (Ok y) t k h w was from to round x a b c d = mail_changed t k h w was from to round x a b c d
 put_kept (Err e) t k h w was from to round x a b c d = tt

@@ -2,7 +2,8 @@ ghost use Rattle.std.specs.Prelude.{◌≡◌, ◌<◌, ◌≢◌, length, Some,
 ghost use Rattle.std.specs.Option.{option_copied, option_copied_mut};
 ghost use Rattle.coll_kinds.specs.declared.refusal.Refused.{Refused};
 ghost use Rattle.coll_match.specs.Held.{given_in, mail_in, seat_in};
-ghost use Rattle.coll_match.specs.Instances.{IsLast, dissolved, given, is_of, joined, left, look_ups, mail, mailed, nothing, roomed, seated, seats, size, standing};
+ghost use Rattle.coll_match.specs.Instances.{IsLast, dissolved, given, is_of, joined, left, look_ups, mail, mailed, nothing, roomed, seated, seats};
+ghost use Rattle.coll_match.specs.Instances.{size, standing};
 
 use crate::envelope::Envelope;
 use crate::instance::{Instance, SpareShares};

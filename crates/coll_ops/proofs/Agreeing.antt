@@ -7,7 +7,8 @@ use Rattle.coll_kinds.specs.declared.operation.Op.{Op}
 use Rattle.coll_kinds.specs.declared.operation.Op.TheVariants.{Sum}
 use Rattle.coll_kinds.specs.Common.{block_len, has_root, needs_of}
 use Rattle.std.specs.Bool.{IsTrue}
-use Rattle.coll_kinds.specs.declared.kind.Kind.TheVariants.{Barrier, Bcast, Gather, Scatter, Allgather, Allgatherv, Alltoall, Reduce, Allreduce, Rsblock, Scan, Exscan}
+use Rattle.coll_kinds.specs.declared.kind.Kind.TheVariants.{Barrier, Bcast, Gather, Scatter, Allgather, Allgatherv, Alltoall, Reduce, Allreduce}
+use Rattle.coll_kinds.specs.declared.kind.Kind.TheVariants.{Rsblock, Scan, Exscan}
 use Rattle.coll_kinds.specs.declared.kind.Kind.{Kind}
 use Rattle.coll_ops.specs.Combinations.{combination}
 use Rattle.coll_ops.specs.Values.{block, row_of, all_rows, value_by}
@@ -28,7 +29,8 @@ abbrev Agree : Kind → ℕ → ℕ → ℕ → List (List ℕ) → List (List �
 Agree kind root n r given others = (p : ℕ) → IsTrue (nat_lt p n && needs_of kind root r p) → row_of given p ≡ row_of others p
 
 -- lists that agree up to k have one front
-same_front : (rows others : List (List ℕ)) (k : ℕ) → length rows ≡ length others → ((i : ℕ) → i < length rows → i < k → row_of rows i ≡ row_of others i) → take k rows ≡ take k others
+same_front : (rows others : List (List ℕ)) (k : ℕ) → length rows ≡ length others
+    → ((i : ℕ) → i < length rows → i < k → row_of rows i ≡ row_of others i) → take k rows ≡ take k others
 same_front rows others zero long same = refl
 same_front [] [] (suc k) long same = refl
 same_front [] (other ∷ others) (suc k) long same = absurd (omega arith)
@@ -47,7 +49,9 @@ value_by-agree Gather op ty b root n r given others rooted member given_len othe
     at_root (r == root) refl
   where
     at_root : (t : Bool) → (r == root) ≡ t → (if r == root then all_rows given else []) ≡ (if r == root then all_rows others else [])
-    at_root true e = ap (λ rows. if r == root then all_rows rows else []) (same_rows given others (given_len ∙ sym others_len) (λ i within. same i (and_from _ _ (lt-ltb i n (omega arith)) (or_left _ _ e))))
+    at_root true e =
+        ap (λ rows. if r == root then all_rows rows else [])
+        (same_rows given others (given_len ∙ sym others_len) (λ i within. same i (and_from _ _ (lt-ltb i n (omega arith)) (or_left _ _ e))))
     at_root false e = rw e refl
 value_by-agree Scatter op ty b root n r given others rooted member given_len others_len same =
     ap (block b r) (same root (and_from _ _ (lt-ltb root n (rooted refl)) (search rules)))
@@ -61,16 +65,21 @@ value_by-agree Reduce op ty b root n r given others rooted member given_len othe
     at_root (r == root) refl
   where
     at_root : (t : Bool) → (r == root) ≡ t → (if r == root then combination op ty given else []) ≡ (if r == root then combination op ty others else [])
-    at_root true e = ap (λ rows. if r == root then combination op ty rows else []) (same_rows given others (given_len ∙ sym others_len) (λ i within. same i (and_from _ _ (lt-ltb i n (omega arith)) (or_left _ _ e))))
+    at_root true e =
+        ap (λ rows. if r == root then combination op ty rows else [])
+        (same_rows given others (given_len ∙ sym others_len) (λ i within. same i (and_from _ _ (lt-ltb i n (omega arith)) (or_left _ _ e))))
     at_root false e = rw e refl
 value_by-agree Allreduce op ty b root n r given others rooted member given_len others_len same =
     ap (combination op ty) (same_rows given others (given_len ∙ sym others_len) (λ i within. same i (and_from _ _ (lt-ltb i n (omega arith)) refl)))
 value_by-agree Rsblock op ty b root n r given others rooted member given_len others_len same =
-    ap (λ rows. block b r (combination op ty rows)) (same_rows given others (given_len ∙ sym others_len) (λ i within. same i (and_from _ _ (lt-ltb i n (omega arith)) refl)))
+    ap (λ rows. block b r (combination op ty rows))
+    (same_rows given others (given_len ∙ sym others_len) (λ i within. same i (and_from _ _ (lt-ltb i n (omega arith)) refl)))
 value_by-agree Scan op ty b root n r given others rooted member given_len others_len same =
-    ap (combination op ty) (same_front given others (r + 1) (given_len ∙ sym others_len) (λ i within below. same i (and_from _ _ (lt-ltb i n (omega arith)) (le-leb i r (omega arith)))))
+    ap (combination op ty) (same_front given others (r + 1) (given_len ∙ sym others_len)
+    (λ i within below. same i (and_from _ _ (lt-ltb i n (omega arith)) (le-leb i r (omega arith)))))
 value_by-agree Exscan op ty b root n r given others rooted member given_len others_len same =
-    ap (combination op ty) (same_front given others r (given_len ∙ sym others_len) (λ i within below. same i (and_from _ _ (lt-ltb i n (omega arith)) (lt-ltb i r below))))
+    ap (combination op ty) (same_front given others r (given_len ∙ sym others_len)
+    (λ i within below. same i (and_from _ _ (lt-ltb i n (omega arith)) (lt-ltb i r below))))
 
 pub values_read_needs : ValuesReadNeeds
 values_read_needs sig n r given others fits member given_len others_len same =

@@ -1,5 +1,6 @@
 -- Operations on elements and on rows are associative.
-use Rattle.std.proofs.Common.{◌≡◌, ℕ, zero, suc, ◌+◌, ◌*◌, ◌/◌, ◌%◌, ◌^◌, ◌<◌, ℤ, ◌+ℤ◌, ◌*ℤ◌, Bool, true, false, not, cond, List, [], ◌∷◌, ◌++◌, length, drop, refl, arith, ap, sym, ◌∙◌, subst, flat_map, bit_and, max}
+use Rattle.std.proofs.Common.{◌≡◌, ℕ, zero, suc, ◌+◌, ◌*◌, ◌/◌, ◌%◌, ◌^◌, ◌<◌, ℤ, ◌+ℤ◌, ◌*ℤ◌, Bool, true, false, not, cond, List, [], ◌∷◌, ◌++◌}
+use Rattle.std.proofs.Common.{length, drop, refl, arith, ap, sym, ◌∙◌, subst, flat_map, bit_and, max}
 use Rattle.std.specs.Bool.{IsTrue}
 use Rattle.std.specs.Prelude.{◌&&◌, ◌||◌, slice_index, bit_or, bit_xor, int_lt}
 use Rattle.std.specs.Int.{cast_unsigned, int_max, int_min}
@@ -21,7 +22,8 @@ use Rattle.coll_ops.specs.Operations.{wrapped, is_zero, flag, bitwise, computed,
 use Rattle.coll_ops.specs.Combinations.{elements, zipped, combined}
 use Rattle.coll_ops.specs.Laws.{OperationsAssociate, OperationsStay, CombinationsAssociate, IsRow}
 use Rattle.coll_ops.proofs.BitOperations.{Stays, bit_and-lt, bit_or-lt, bit_xor-lt, bitwise-bits}
-use Rattle.coll_ops.proofs.ElementBits.{InRange, limit-some, cast_unsigned-lt, number_of-cast_unsigned, InRange-wrapped, whole-IsElement, IsElement-whole, IsElement-element_at, element_at-element_bytes, cast_unsigned-sum, cast_unsigned-product}
+use Rattle.coll_ops.proofs.ElementBits.{InRange, limit-some, cast_unsigned-lt, number_of-cast_unsigned, InRange-wrapped, whole-IsElement}
+use Rattle.coll_ops.proofs.ElementBits.{IsElement-whole, IsElement-element_at, element_at-element_bytes, cast_unsigned-sum, cast_unsigned-product}
 use Rattle.coll_ops.proofs.Places.{length-element_bytes}
 use Rattle.coll_ops.proofs.RowLists.{length-combined, length-zipped}
 
@@ -50,8 +52,10 @@ sum-works : (ty : Datatype) → WorksOnBits (λ a b. wrapped ty (a +ℤ b)) (λ 
 sum-works ty = record {
   in_range = λ a b a_is b_is. InRange-wrapped ty (a +ℤ b);
   bits_are = λ a b a_is b_is.
-      subst (λ (z : ℤ). cast_unsigned (word ty) (wrapped ty (z +ℤ b)) ≡ (cast_unsigned (word ty) a + cast_unsigned (word ty) b) % 2 ^ (8 * width ty)) (number_of-cast_unsigned ty a a_is)
-      (subst (λ (z : ℤ). cast_unsigned (word ty) (wrapped ty (number_of ty (cast_unsigned (word ty) a) +ℤ z)) ≡ (cast_unsigned (word ty) a + cast_unsigned (word ty) b) % 2 ^ (8 * width ty)) (number_of-cast_unsigned ty b b_is)
+      subst (λ (z : ℤ). cast_unsigned (word ty) (wrapped ty (z +ℤ b)) ≡ (cast_unsigned (word ty) a + cast_unsigned (word ty) b) % 2 ^ (8 * width ty))
+      (number_of-cast_unsigned ty a a_is)
+      (subst (λ (z : ℤ). cast_unsigned (word ty) (wrapped ty (number_of ty (cast_unsigned (word ty) a) +ℤ z))
+      ≡ (cast_unsigned (word ty) a + cast_unsigned (word ty) b) % 2 ^ (8 * width ty)) (number_of-cast_unsigned ty b b_is)
       (cast_unsigned-sum ty (cast_unsigned (word ty) a) (cast_unsigned (word ty) b) (cast_unsigned-lt ty a a_is) (cast_unsigned-lt ty b b_is)));
 }
 
@@ -59,8 +63,10 @@ product-works : (ty : Datatype) → WorksOnBits (λ a b. wrapped ty (a *ℤ b)) 
 product-works ty = record {
   in_range = λ a b a_is b_is. InRange-wrapped ty (a *ℤ b);
   bits_are = λ a b a_is b_is.
-      subst (λ (z : ℤ). cast_unsigned (word ty) (wrapped ty (z *ℤ b)) ≡ (cast_unsigned (word ty) a * cast_unsigned (word ty) b) % 2 ^ (8 * width ty)) (number_of-cast_unsigned ty a a_is)
-      (subst (λ (z : ℤ). cast_unsigned (word ty) (wrapped ty (number_of ty (cast_unsigned (word ty) a) *ℤ z)) ≡ (cast_unsigned (word ty) a * cast_unsigned (word ty) b) % 2 ^ (8 * width ty)) (number_of-cast_unsigned ty b b_is)
+      subst (λ (z : ℤ). cast_unsigned (word ty) (wrapped ty (z *ℤ b)) ≡ (cast_unsigned (word ty) a * cast_unsigned (word ty) b) % 2 ^ (8 * width ty))
+      (number_of-cast_unsigned ty a a_is)
+      (subst (λ (z : ℤ). cast_unsigned (word ty) (wrapped ty (number_of ty (cast_unsigned (word ty) a) *ℤ z))
+      ≡ (cast_unsigned (word ty) a * cast_unsigned (word ty) b) % 2 ^ (8 * width ty)) (number_of-cast_unsigned ty b b_is)
       (cast_unsigned-product ty (cast_unsigned (word ty) a) (cast_unsigned (word ty) b) (cast_unsigned-lt ty a a_is) (cast_unsigned-lt ty b b_is)));
 }
 
@@ -68,8 +74,10 @@ bitwise-works : (f : ℕ → ℕ → ℕ) → Stays f → (ty : Datatype) → Wo
 bitwise-works f stays ty = record {
   in_range = λ a b a_is b_is. InRange-wrapped ty _;
   bits_are = λ a b a_is b_is.
-      subst (λ (z : ℤ). cast_unsigned (word ty) (bitwise f ty z b) ≡ f (cast_unsigned (word ty) a) (cast_unsigned (word ty) b)) (number_of-cast_unsigned ty a a_is)
-      (subst (λ (z : ℤ). cast_unsigned (word ty) (bitwise f ty (number_of ty (cast_unsigned (word ty) a)) z) ≡ f (cast_unsigned (word ty) a) (cast_unsigned (word ty) b)) (number_of-cast_unsigned ty b b_is)
+      subst (λ (z : ℤ). cast_unsigned (word ty) (bitwise f ty z b) ≡ f (cast_unsigned (word ty) a) (cast_unsigned (word ty) b))
+      (number_of-cast_unsigned ty a a_is)
+      (subst (λ (z : ℤ). cast_unsigned (word ty) (bitwise f ty (number_of ty (cast_unsigned (word ty) a)) z)
+      ≡ f (cast_unsigned (word ty) a) (cast_unsigned (word ty) b)) (number_of-cast_unsigned ty b b_is)
       (bitwise-bits f stays ty (cast_unsigned (word ty) a) (cast_unsigned (word ty) b) (cast_unsigned-lt ty a a_is) (cast_unsigned-lt ty b b_is)));
 }
 
@@ -129,7 +137,8 @@ last-assoc a b c = by_test (is_zero c) refl
     by_test false e = rw e (rw e refl)
 
 -- an operation on whole numbers is associative
-numbers_associate : (op : Op) (ty : Datatype) (a b c : ℤ) → InRange ty a → InRange ty b → InRange ty c → computed op ty (computed op ty a b) c ≡ computed op ty a (computed op ty b c)
+numbers_associate : (op : Op) (ty : Datatype) (a b c : ℤ) → InRange ty a → InRange ty b → InRange ty c
+    → computed op ty (computed op ty a b) c ≡ computed op ty a (computed op ty b c)
 numbers_associate Max ty a b c a_is b_is c_is = max-assoc a b c
 numbers_associate Min ty a b c a_is b_is c_is = min-assoc a b c
 numbers_associate Sum ty a b c a_is b_is c_is = associates _ _ ty (sum-works ty) (sum-assoc (2 ^ (8 * width ty))) a b c a_is b_is c_is
@@ -243,7 +252,8 @@ applied-whole MinLoc ty a b e = absurd (false≢true (sym e))
 InRange-number : (ty : Datatype) (x : Element) → is_pair ty ≡ false → IsElement ty x → InRange ty (number x)
 InRange-number ty x e h = let found = whole-IsElement ty x e h in subst (λ (y : Element). InRange ty (number y)) (sym found.1) found.2
 
-whole_associate : (op : Op) (ty : Datatype) → locates op ≡ false → IsTrue (allowed op ty) → (a b c : Element) → IsElement ty a → IsElement ty b → IsElement ty c →
+whole_associate : (op : Op) (ty : Datatype) → locates op ≡ false → IsTrue (allowed op ty) → (a b c : Element) → IsElement ty a
+    → IsElement ty b → IsElement ty c →
     applied op ty (applied op ty a b) c ≡ applied op ty a (applied op ty b c)
 whole_associate op ty e may a b c a_is b_is c_is =
     let no = allowed_on_whole op ty e may in
@@ -252,14 +262,17 @@ whole_associate op ty e may a b c a_is b_is c_is =
     let right : applied op ty a (applied op ty b c) ≡ whole (computed op ty (number a) (computed op ty (number b) (number c))) =
     applied-whole op ty a (applied op ty b c) e ∙ ap (λ x. whole (computed op ty (number a) (number x))) (applied-whole op ty b c e) in
     left
-    ∙ (ap whole (numbers_associate op ty (number a) (number b) (number c) (InRange-number ty a no a_is) (InRange-number ty b no b_is) (InRange-number ty c no c_is))
+    ∙ (ap whole (numbers_associate op ty (number a) (number b) (number c) (InRange-number ty a no a_is)
+    (InRange-number ty b no b_is) (InRange-number ty c no c_is))
     ∙ sym right)
 
-whole_stay : (op : Op) (ty : Datatype) → locates op ≡ false → IsTrue (allowed op ty) → (a b : Element) → IsElement ty a → IsElement ty b → IsElement ty (applied op ty a b)
+whole_stay : (op : Op) (ty : Datatype) → locates op ≡ false → IsTrue (allowed op ty) → (a b : Element) → IsElement ty a
+    → IsElement ty b → IsElement ty (applied op ty a b)
 whole_stay op ty e may a b a_is b_is =
     let no = allowed_on_whole op ty e may in
     subst (IsElement ty) (sym (applied-whole op ty a b e))
-    (IsElement-whole ty (computed op ty (number a) (number b)) no (numbers_stay op ty (number a) (number b) (InRange-number ty a no a_is) (InRange-number ty b no b_is)))
+    (IsElement-whole ty (computed op ty (number a) (number b)) no
+    (numbers_stay op ty (number a) (number b) (InRange-number ty a no a_is) (InRange-number ty b no b_is)))
 
 -- ---- the pair that is found
 
@@ -286,30 +299,38 @@ located-exceeds before a b = chosen (before (number a) (number b)) (before (numb
     chosen false false false = refl
 
 -- where it does so by an order, whichever two come first
-choose-assoc : (takes : Element → Element → Bool) → ((a b c : Element) → takes a b ≡ true → takes b c ≡ true → takes a c ≡ true) → ((a b c : Element) → takes a b ≡ false → takes b c ≡ false → takes a c ≡ false) →
+choose-assoc : (takes : Element → Element → Bool) → ((a b c : Element) → takes a b ≡ true → takes b c ≡ true → takes a c ≡ true)
+    → ((a b c : Element) → takes a b ≡ false → takes b c ≡ false → takes a c ≡ false) →
     (a b c : Element) → cond (takes (cond (takes a b) b a) c) c (cond (takes a b) b a) ≡ cond (takes a (cond (takes b c) c b)) (cond (takes b c) c b) a
 choose-assoc takes chain unchained a b c = by_tests (takes a b) (takes b c) refl refl
   where
-    by_tests : (s t : Bool) → takes a b ≡ s → takes b c ≡ t → cond (takes (cond (takes a b) b a) c) c (cond (takes a b) b a) ≡ cond (takes a (cond (takes b c) c b)) (cond (takes b c) c b) a
+    by_tests : (s t : Bool) → takes a b ≡ s → takes b c ≡ t
+        → cond (takes (cond (takes a b) b a) c) c (cond (takes a b) b a) ≡ cond (takes a (cond (takes b c) c b)) (cond (takes b c) c b) a
     by_tests true true e f = let g : takes a c ≡ true = chain a b c e f in rw (e, f) (rw g refl)
     by_tests true false e f = rw (e, f) (rw e refl)
     by_tests false true e f = rw (e, f) refl
     by_tests false false e f = let g : takes a c ≡ false = unchained a b c e f in rw (e, f) (rw (g, e) refl)
 
 -- both orders chain
-greater_chain : (u v w i j k : ℤ) → cond (int_lt v u) false (cond (int_lt u v) true (int_lt j i)) ≡ true → cond (int_lt w v) false (cond (int_lt v w) true (int_lt k j)) ≡ true → cond (int_lt w u) false (cond (int_lt u w) true (int_lt k i)) ≡ true
+greater_chain : (u v w i j k : ℤ) → cond (int_lt v u) false (cond (int_lt u v) true (int_lt j i)) ≡ true
+    → cond (int_lt w v) false (cond (int_lt v w) true (int_lt k j)) ≡ true → cond (int_lt w u) false (cond (int_lt u w) true (int_lt k i)) ≡ true
 greater_chain u v w i j k e f = grind (arith, ints)
 
-greater_unchained : (u v w i j k : ℤ) → cond (int_lt v u) false (cond (int_lt u v) true (int_lt j i)) ≡ false → cond (int_lt w v) false (cond (int_lt v w) true (int_lt k j)) ≡ false → cond (int_lt w u) false (cond (int_lt u w) true (int_lt k i)) ≡ false
+greater_unchained : (u v w i j k : ℤ) → cond (int_lt v u) false (cond (int_lt u v) true (int_lt j i)) ≡ false
+    → cond (int_lt w v) false (cond (int_lt v w) true (int_lt k j)) ≡ false → cond (int_lt w u) false (cond (int_lt u w) true (int_lt k i)) ≡ false
 greater_unchained u v w i j k e f = grind (arith, ints)
 
-lesser_chain : (u v w i j k : ℤ) → cond (int_lt u v) false (cond (int_lt v u) true (int_lt j i)) ≡ true → cond (int_lt v w) false (cond (int_lt w v) true (int_lt k j)) ≡ true → cond (int_lt u w) false (cond (int_lt w u) true (int_lt k i)) ≡ true
+lesser_chain : (u v w i j k : ℤ) → cond (int_lt u v) false (cond (int_lt v u) true (int_lt j i)) ≡ true
+    → cond (int_lt v w) false (cond (int_lt w v) true (int_lt k j)) ≡ true → cond (int_lt u w) false (cond (int_lt w u) true (int_lt k i)) ≡ true
 lesser_chain u v w i j k e f = grind (arith, ints)
 
-lesser_unchained : (u v w i j k : ℤ) → cond (int_lt u v) false (cond (int_lt v u) true (int_lt j i)) ≡ false → cond (int_lt v w) false (cond (int_lt w v) true (int_lt k j)) ≡ false → cond (int_lt u w) false (cond (int_lt w u) true (int_lt k i)) ≡ false
+lesser_unchained : (u v w i j k : ℤ) → cond (int_lt u v) false (cond (int_lt v u) true (int_lt j i)) ≡ false
+    → cond (int_lt v w) false (cond (int_lt w v) true (int_lt k j)) ≡ false → cond (int_lt u w) false (cond (int_lt w u) true (int_lt k i)) ≡ false
 lesser_unchained u v w i j k e f = grind (arith, ints)
 
-located-assoc : (before : ℤ → ℤ → Bool) → ((a b c : Element) → exceeds before a b ≡ true → exceeds before b c ≡ true → exceeds before a c ≡ true) → ((a b c : Element) → exceeds before a b ≡ false → exceeds before b c ≡ false → exceeds before a c ≡ false) →
+located-assoc : (before : ℤ → ℤ → Bool)
+    → ((a b c : Element) → exceeds before a b ≡ true → exceeds before b c ≡ true → exceeds before a c ≡ true)
+    → ((a b c : Element) → exceeds before a b ≡ false → exceeds before b c ≡ false → exceeds before a c ≡ false) →
     (a b c : Element) → located before (located before a b) c ≡ located before a (located before b c)
 located-assoc before chain unchained a b c =
     located-exceeds before (located before a b) c
@@ -364,9 +385,11 @@ drop-bytes row n h i = rw get_or-drop (h (n + i))
 
 AreElements-elements : (ty : Datatype) (count : ℕ) (row : List ℕ) → ((i : ℕ) → slice_index row i < 256) → AreElements ty (elements ty count row)
 AreElements-elements ty zero row bytes = tt
-AreElements-elements ty (suc count) row bytes = (IsElement-element_at ty row bytes, AreElements-elements ty count (drop (width ty) row) (drop-bytes row (width ty) bytes))
+AreElements-elements ty (suc count) row bytes =
+    (IsElement-element_at ty row bytes, AreElements-elements ty count (drop (width ty) row) (drop-bytes row (width ty) bytes))
 
-AreElements-zipped : (op : Op) (ty : Datatype) → IsTrue (allowed op ty) → (xs ys : List Element) → AreElements ty xs → AreElements ty ys → AreElements ty (zipped op ty xs ys)
+AreElements-zipped : (op : Op) (ty : Datatype) → IsTrue (allowed op ty) → (xs ys : List Element) → AreElements ty xs
+    → AreElements ty ys → AreElements ty (zipped op ty xs ys)
 AreElements-zipped op ty may [] ys x_are y_are = tt
 AreElements-zipped op ty may (x ∷ xs) [] x_are y_are = tt
 AreElements-zipped op ty may (x ∷ xs) (y ∷ ys) x_are y_are = (operations_stay op ty may x y x_are.0 y_are.0, AreElements-zipped op ty may xs ys x_are.1 y_are.1)
@@ -404,8 +427,10 @@ combinations_associate op ty may a b c a_row b_row c_row ab bc =
     let n : ℕ = length a / width ty in
     let write : List Element → List ℕ = flat_map (element_bytes ty) in
     let right_is : elements ty n (combined op ty b c) ≡ zipped op ty (elements ty n b) (elements ty n c) =
-    subst (λ (k : ℕ). elements ty (k / width ty) (combined op ty b c) ≡ zipped op ty (elements ty (k / width ty) b) (elements ty (k / width ty) c)) (sym ab) (elements-combined op ty may b c b_row c_row bc) in
+    subst (λ (k : ℕ). elements ty (k / width ty) (combined op ty b c) ≡ zipped op ty (elements ty (k / width ty) b) (elements ty (k / width ty) c))
+    (sym ab) (elements-combined op ty may b c b_row c_row bc) in
     ap (λ k. write (zipped op ty (elements ty (k / width ty) (combined op ty a b)) (elements ty (k / width ty) c))) (length-combined op ty a b a_row.whole)
     ∙ (ap (λ zs. write (zipped op ty zs (elements ty n c))) (elements-combined op ty may a b a_row b_row ab)
-    ∙ (ap write (zipped-assoc op ty may (elements ty n a) (elements ty n b) (elements ty n c) (AreElements-elements ty n a a_row.bytes) (AreElements-elements ty n b b_row.bytes) (AreElements-elements ty n c c_row.bytes))
+    ∙ (ap write (zipped-assoc op ty may (elements ty n a) (elements ty n b) (elements ty n c)
+    (AreElements-elements ty n a a_row.bytes) (AreElements-elements ty n b b_row.bytes) (AreElements-elements ty n c c_row.bytes))
     ∙ ap (λ zs. write (zipped op ty (elements ty n a) zs)) (sym right_is)))

@@ -1,6 +1,7 @@
 -- Elements and their bits, at any width and sign. A type is given here by whether it has a sign, by its machine word w,
 -- and by the number k of its bits.
-use Rattle.std.proofs.Common.{◌≡◌, ℕ, ◌+◌, ◌-◌, ◌*◌, ◌%◌, ◌^◌, ◌<◌, ◌≤◌, ℤ, pos, negsuc, ◌+ℤ◌, ◌*ℤ◌, Bool, true, false, refl, arith, ap, sym, ◌∙◌, subst, bit_and}
+use Rattle.std.proofs.Common.{◌≡◌, ℕ, ◌+◌, ◌-◌, ◌*◌, ◌%◌, ◌^◌, ◌<◌, ◌≤◌, ℤ, pos, negsuc, ◌+ℤ◌, ◌*ℤ◌, Bool, true, false, refl, arith, ap, sym, ◌∙◌}
+use Rattle.std.proofs.Common.{subst, bit_and}
 use Rattle.std.specs.Prelude.{◌&&◌, nat_lt, unsigned_abs, if◌then◌else◌}
 use Rattle.std.specs.Int.{Width, cast_unsigned, cast_signed, int_wrap, int_rem_euclid}
 use Rattle.std.proofs.Math.Facts.{sfits_to_z, Fits-of_lt}
@@ -68,7 +69,8 @@ cast_unsigned-lt_by true w k (negsuc n) has h = rw has.all (omega (arith, pow_po
 cast_unsigned-lt_by false w k (pos n) has h = ltb-true n (2 ^ k) h
 cast_unsigned-lt_by false w k (negsuc n) has h = absurd (false≢true h)
 
-pub element_by-cast_unsigned : (signed : Bool) (w : Width) (k : ℕ) (z : ℤ) → HasBits w k → is_element_by signed k z ≡ true → element_by signed w (cast_unsigned w z) ≡ z
+pub element_by-cast_unsigned : (signed : Bool) (w : Width) (k : ℕ) (z : ℤ) → HasBits w k → is_element_by signed k z ≡ true
+    → element_by signed w (cast_unsigned w z) ≡ z
 element_by-cast_unsigned true w k z has h = to_z-of_z w z (SFits-signed w k z has h)
 element_by-cast_unsigned false w k (pos n) has h = refl
 element_by-cast_unsigned false w k (negsuc n) has h = absurd (false≢true h)

@@ -1,5 +1,6 @@
 -- A block of a combination is the combination of the blocks.
-use Rattle.std.proofs.Common.{◌≡◌, ℕ, zero, suc, ◌+◌, ◌-◌, ◌*◌, ◌/◌, ◌<◌, ◌≤◌, List, [], ◌∷◌, ◌++◌, length, take, drop, refl, arith, ap, sym, ◌∙◌, map, flat_map, length-take, length-drop}
+use Rattle.std.proofs.Common.{◌≡◌, ℕ, zero, suc, ◌+◌, ◌-◌, ◌*◌, ◌/◌, ◌<◌, ◌≤◌, List, [], ◌∷◌, ◌++◌, length, take, drop, refl, arith, ap, sym, ◌∙◌}
+use Rattle.std.proofs.Common.{map, flat_map, length-take, length-drop}
 use Rattle.std.proofs.Math.Nat.{zero-mul, mul-div_left, mul-mod_left}
 use Rattle.std.proofs.lemmas.List.{drop-drop, drop-take, take-append-drop}
 use Rattle.std.proofs.Math.Seq.{drop-nil, take-nil, drop-append-add, take-append-add}
@@ -68,7 +69,8 @@ flat_map-take ty (suc k) (z ∷ zs) =
     ∙ (take-append-add (element_bytes ty z) (flat_map (element_bytes ty) zs) (k * width ty)
     ∙ ap (λ rest. element_bytes ty z ++ rest) (flat_map-take ty k zs))
 
-zipped-drop : (op : Op) (ty : Datatype) (m : ℕ) (xs ys : List Element) → length xs ≡ length ys → zipped op ty (drop m xs) (drop m ys) ≡ drop m (zipped op ty xs ys)
+zipped-drop : (op : Op) (ty : Datatype) (m : ℕ) (xs ys : List Element) → length xs ≡ length ys
+    → zipped op ty (drop m xs) (drop m ys) ≡ drop m (zipped op ty xs ys)
 zipped-drop op ty zero xs ys same = refl
 zipped-drop op ty (suc m) [] [] same = refl
 zipped-drop op ty (suc m) [] (y ∷ ys) same = absurd (omega arith)
@@ -110,7 +112,8 @@ combined-part op ty m c j x y long same =
     let alike : length xs ≡ length ys = length-elements ty n x ∙ sym (length-elements ty n y) in
     let alike_behind : length (drop m xs) ≡ length (drop m ys) = simp length-drop (ap (λ k. k - m) alike) in
     let zs : List Element = zipped op ty xs ys in
-    ap (λ k. write (zipped op ty (elements ty k (part (m * w) (c * w) x)) (elements ty k (part (m * w) (c * w) y)))) (count-of ty c (length (part (m * w) (c * w) x)) (length-part (m * w) (c * w) x within))
+    ap (λ k. write (zipped op ty (elements ty k (part (m * w) (c * w) x)) (elements ty k (part (m * w) (c * w) y))))
+    (count-of ty c (length (part (m * w) (c * w) x)) (length-part (m * w) (c * w) x within))
     ∙ (ap (λ front. write (zipped op ty front (elements ty c (part (m * w) (c * w) y)))) (elements-part ty m c j x within)
     ∙ (ap (λ front. write (zipped op ty (take c (drop m xs)) front)) (elements-part ty m c j y also)
     ∙ (ap write (zipped-take op ty c (drop m xs) (drop m ys) ∙ ap (take c) (zipped-drop op ty m xs ys alike))
@@ -118,11 +121,14 @@ combined-part op ty m c j x y long same =
     ∙ (ap (take (c * w)) (sym (flat_map-drop ty m zs))
     ∙ ap (λ k. part (m * w) (c * w) (write (zipped op ty (elements ty k x) (elements ty k y)))) (sym (count-of ty n (length x) long)))))))
 
-pub combination-parts : (op : Op) (ty : Datatype) (m c j : ℕ) (rows : List (List ℕ)) → 0 < length rows → ((i : ℕ) → i < length rows → length (row_of rows i) ≡ (m + (c + j)) * width ty) →
+pub combination-parts : (op : Op) (ty : Datatype) (m c j : ℕ) (rows : List (List ℕ)) → 0 < length rows
+    → ((i : ℕ) → i < length rows → length (row_of rows i) ≡ (m + (c + j)) * width ty) →
     combination op ty (map (part (m * width ty) (c * width ty)) rows) ≡ part (m * width ty) (c * width ty) (combination op ty rows)
 combination-parts op ty m c j [] some long = absurd (omega arith)
 combination-parts op ty m c j (row ∷ []) some long = refl
 combination-parts op ty m c j (row ∷ next ∷ rows) some long =
     let rest : (i : ℕ) → i < length (next ∷ rows) → length (row_of (next ∷ rows) i) ≡ (m + (c + j)) * width ty = λ i within. long (suc i) (omega arith) in
     ap (λ sum. combined op ty (part (m * width ty) (c * width ty) row) sum) (combination-parts op ty m c j (next ∷ rows) (omega arith) rest)
-    ∙ combined-part op ty m c j row (combination op ty (next ∷ rows)) (long 0 (omega arith)) (length-combination op ty ((m + (c + j)) * width ty) (next ∷ rows) (mul-mod_left (m + (c + j)) (width ty)) (omega arith) rest ∙ sym (long 0 (omega arith)))
+    ∙ combined-part op ty m c j row (combination op ty (next ∷ rows)) (long 0 (omega arith))
+    (length-combination op ty ((m + (c + j)) * width ty) (next ∷ rows) (mul-mod_left (m + (c + j)) (width ty)) (omega arith) rest
+    ∙ sym (long 0 (omega arith)))

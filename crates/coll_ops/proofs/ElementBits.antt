@@ -1,5 +1,6 @@
 -- Elements of a type and their bits.
-use Rattle.std.proofs.Common.{◌≡◌, ℕ, zero, suc, ◌*◌, ◌+◌, ◌%◌, ◌^◌, ◌<◌, ℤ, pos, ◌+ℤ◌, ◌*ℤ◌, List, ◌++◌, ◌/◌, ◌⊎◌, inl, inr, false, refl, arith, ap, sym, ◌∙◌, add-one, subst}
+use Rattle.std.proofs.Common.{◌≡◌, ℕ, zero, suc, ◌*◌, ◌+◌, ◌%◌, ◌^◌, ◌<◌, ℤ, pos, ◌+ℤ◌, ◌*ℤ◌, List, ◌++◌, ◌/◌, ◌⊎◌, inl, inr, false, refl, arith, ap}
+use Rattle.std.proofs.Common.{sym, ◌∙◌, add-one, subst}
 use Rattle.std.specs.Prelude.{slice_index, not}
 use Rattle.std.specs.Bool.{IsTrue}
 use Rattle.std.proofs.lemmas.Bool.{and_parts, and_from, false≢true}
@@ -10,9 +11,12 @@ use Rattle.byteorder.specs.Endian.{little_number}
 use Rattle.byteorder.specs.Numbers.{little_number-reads_back, little_from-lt}
 use Rattle.coll_kinds.specs.declared.datatype.Datatype.{Datatype}
 use Rattle.coll_kinds.specs.declared.datatype.Datatype.TheVariants.{I8, I16, I32, I64, U8, U16, U32, U64, Byte, Pair}
-use Rattle.coll_kinds.specs.Elements.{Element, whole, pair, width, word, is_signed, is_pair, limit, in_range, number_of, IsElement, element_of, element_at, bits, element_bytes}
+use Rattle.coll_kinds.specs.Elements.{Element, whole, pair, width, word, is_signed, is_pair, limit, in_range, number_of, IsElement, element_of}
+use Rattle.coll_kinds.specs.Elements.{element_at, bits, element_bytes}
 use Rattle.coll_ops.specs.Operations.{wrapped}
-use Rattle.coll_ops.proofs.Bits.{HasBits, limit_by-some, cast_unsigned-element_by, is_element_by-element_by, cast_unsigned-lt_by, element_by-cast_unsigned, is_element_by-wrapped_by, cast_unsigned-wrapped_sum, cast_unsigned-wrapped_product, cast_unsigned-wrapped_pos}
+use Rattle.coll_ops.proofs.Bits.{HasBits, limit_by-some, cast_unsigned-element_by, is_element_by-element_by, cast_unsigned-lt_by}
+use Rattle.coll_ops.proofs.Bits.{element_by-cast_unsigned, is_element_by-wrapped_by, cast_unsigned-wrapped_sum, cast_unsigned-wrapped_product}
+use Rattle.coll_ops.proofs.Bits.{cast_unsigned-wrapped_pos}
 
 abbrev pub InRange : Datatype → ℤ → Type 0
 InRange ty z = IsTrue (in_range ty z)
@@ -64,11 +68,15 @@ pub InRange-wrapped : (ty : Datatype) (z : ℤ) → InRange ty (wrapped ty z)
 InRange-wrapped ty z = is_element_by-wrapped_by (is_signed ty) (word ty) (8 * width ty) z (HasBits-word ty)
 
 -- the bits of sums, products and patterns, wrapped
-pub cast_unsigned-sum : (ty : Datatype) (m n : ℕ) → m < 256 ^ width ty → n < 256 ^ width ty → cast_unsigned (word ty) (wrapped ty (number_of ty m +ℤ number_of ty n)) ≡ (m + n) % 2 ^ (8 * width ty)
-cast_unsigned-sum ty m n left right = cast_unsigned-wrapped_sum (is_signed ty) (word ty) (8 * width ty) m n (HasBits-word ty) (rw (sym (pow-width ty)) left) (rw (sym (pow-width ty)) right)
+pub cast_unsigned-sum : (ty : Datatype) (m n : ℕ) → m < 256 ^ width ty → n < 256 ^ width ty
+    → cast_unsigned (word ty) (wrapped ty (number_of ty m +ℤ number_of ty n)) ≡ (m + n) % 2 ^ (8 * width ty)
+cast_unsigned-sum ty m n left right =
+    cast_unsigned-wrapped_sum (is_signed ty) (word ty) (8 * width ty) m n (HasBits-word ty) (rw (sym (pow-width ty)) left) (rw (sym (pow-width ty)) right)
 
-pub cast_unsigned-product : (ty : Datatype) (m n : ℕ) → m < 256 ^ width ty → n < 256 ^ width ty → cast_unsigned (word ty) (wrapped ty (number_of ty m *ℤ number_of ty n)) ≡ (m * n) % 2 ^ (8 * width ty)
-cast_unsigned-product ty m n left right = cast_unsigned-wrapped_product (is_signed ty) (word ty) (8 * width ty) m n (HasBits-word ty) (rw (sym (pow-width ty)) left) (rw (sym (pow-width ty)) right)
+pub cast_unsigned-product : (ty : Datatype) (m n : ℕ) → m < 256 ^ width ty → n < 256 ^ width ty
+    → cast_unsigned (word ty) (wrapped ty (number_of ty m *ℤ number_of ty n)) ≡ (m * n) % 2 ^ (8 * width ty)
+cast_unsigned-product ty m n left right =
+    cast_unsigned-wrapped_product (is_signed ty) (word ty) (8 * width ty) m n (HasBits-word ty) (rw (sym (pow-width ty)) left) (rw (sym (pow-width ty)) right)
 
 pub cast_unsigned-pattern : (ty : Datatype) (n : ℕ) → n < 256 ^ width ty → cast_unsigned (word ty) (wrapped ty (pos n)) ≡ n
 cast_unsigned-pattern ty n h = cast_unsigned-wrapped_pos (is_signed ty) (word ty) (8 * width ty) n (HasBits-word ty) (rw (sym (pow-width ty)) h)

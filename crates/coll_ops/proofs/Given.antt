@@ -1,5 +1,6 @@
 -- What the members gave, as a value reads it.
-use Rattle.std.proofs.Common.{◌≡◌, ℕ, zero, suc, ◌+◌, ◌*◌, ◌-◌, ◌<◌, Bool, true, false, List, [], ◌∷◌, ◌++◌, length, take, get_or, map, refl, arith, ap, sym, ◌∙◌, subst, rules, Vec, Global, Result, Ok, Err, Option, Some, None, min, length-take, MatchOption, IsOk}
+use Rattle.std.proofs.Common.{◌≡◌, ℕ, zero, suc, ◌+◌, ◌*◌, ◌-◌, ◌<◌, Bool, true, false, List, [], ◌∷◌, ◌++◌, length, take, get_or, map, refl, arith}
+use Rattle.std.proofs.Common.{ap, sym, ◌∙◌, subst, rules, Vec, Global, Result, Ok, Err, Option, Some, None, min, length-take, MatchOption, IsOk}
 use Rattle.std.proofs.Math.Seq.{take-length}
 use Rattle.std.specs.Prelude.{IfOk, ◌==◌, nat_lt, unwrap_or, if◌then◌else◌}
 use Rattle.std.specs.List.{flat_map}
@@ -20,15 +21,18 @@ pub IfOk-map : {T E : Type 0} (P Q : T → Type 0) → ((v : T) → P v → Q v)
 IfOk-map P Q f (Ok v) h = f v h
 IfOk-map P Q f (Err e) h = h
 
-pub value-kind : (sig : Signature) (kind : Kind) (rows : List (List ℕ)) (r : ℕ) → sig.kind ≡ kind → value sig rows r ≡ value_by kind (unwrap_or sig.op Sum) sig.ty (block_len sig) sig.root rows r
+pub value-kind : (sig : Signature) (kind : Kind) (rows : List (List ℕ)) (r : ℕ) → sig.kind ≡ kind
+    → value sig rows r ≡ value_by kind (unwrap_or sig.op Sum) sig.ty (block_len sig) sig.root rows r
 value-kind sig kind rows r is = ap (λ k. value_by k (unwrap_or sig.op Sum) sig.ty (block_len sig) sig.root rows r) is
 
 -- a row's length by the kind
-pub length-given : (sig : Signature) (kind : Kind) (n : ℕ) (rows : List (List ℕ)) → sig.kind ≡ kind → AreGiven sig n rows → (i : ℕ) → i < n → length (row_of rows i) ≡ given_by kind sig.root n i (block_len sig) (row_len sig)
+pub length-given : (sig : Signature) (kind : Kind) (n : ℕ) (rows : List (List ℕ)) → sig.kind ≡ kind → AreGiven sig n rows
+    → (i : ℕ) → i < n → length (row_of rows i) ≡ given_by kind sig.root n i (block_len sig) (row_len sig)
 length-given sig kind n rows is given i within = given.long i within ∙ ap (λ k. given_by k sig.root n i (block_len sig) (row_len sig)) is
 
 -- the code's row, by the definition's
-pub length-item : (rows : List (Vec ℕ Global)) (i : ℕ) (v : Vec ℕ Global) → i < length rows → v ≡ get_or rows i v → length v.items ≡ length (row_of (rows_of rows) i)
+pub length-item : (rows : List (Vec ℕ Global)) (i : ℕ) (v : Vec ℕ Global) → i < length rows → v ≡ get_or rows i v
+    → length v.items ≡ length (row_of (rows_of rows) i)
 length-item rows i v within is = ap length (sym (row_of-rows_of rows i v within is))
 
 -- a whole row is a part
@@ -41,7 +45,8 @@ map-part_whole len (row ∷ rows) long =
     ap (λ x. x ∷ map (part 0 len) rows) (part-whole len row (long 0 (omega arith)))
     ∙ ap (λ xs. row ∷ xs) (map-part_whole len rows (λ i within. long (suc i) (omega arith)))
 
-pub flat_map-part_whole : (len : ℕ) (rows : List (List ℕ)) → ((i : ℕ) → i < length rows → length (row_of rows i) ≡ len) → flat_map (part 0 len) rows ≡ all_rows rows
+pub flat_map-part_whole : (len : ℕ) (rows : List (List ℕ)) → ((i : ℕ) → i < length rows → length (row_of rows i) ≡ len)
+    → flat_map (part 0 len) rows ≡ all_rows rows
 flat_map-part_whole len [] long = refl
 flat_map-part_whole len (row ∷ rows) long =
     ap (λ x. x ++ flat_map (part 0 len) rows) (part-whole len row (long 0 (omega arith)))
@@ -95,6 +100,7 @@ blocks-around r n count w member =
     subst (λ (k : ℕ). (r * count + (count + (n - (r + 1)) * count)) * w ≡ k * (count * w)) (sym split) (grind arith)
 
 -- a signature whose check passed breaks no rule
-pub unbroken : (x : Option SignatureFault) (r : Result (Unit {0}) Refusal) (u : Unit {0}) → MatchOption x (IsOk r) (λ cause. r ≡ Err (BadSignature cause)) → r ≡ Ok u → x ≡ None
+pub unbroken : (x : Option SignatureFault) (r : Result (Unit {0}) Refusal) (u : Unit {0})
+    → MatchOption x (IsOk r) (λ cause. r ≡ Err (BadSignature cause)) → r ≡ Ok u → x ≡ None
 unbroken None r u told ok = refl
 unbroken (Some cause) r u told ok = cc

@@ -1,5 +1,6 @@
 -- Rows of elements, one place after the other.
-use Rattle.std.proofs.Common.{◌≡◌, ℕ, zero, suc, ◌+◌, ◌*◌, ◌/◌, ◌-◌, ◌≤◌, ◌<◌, List, [], ◌++◌, length, take, drop, refl, arith, ap, sym, ◌∙◌, flat_map, append_assoc, add-one, length-append}
+use Rattle.std.proofs.Common.{◌≡◌, ℕ, zero, suc, ◌+◌, ◌*◌, ◌/◌, ◌-◌, ◌≤◌, ◌<◌, List, [], ◌++◌, length, take, drop, refl, arith, ap, sym, ◌∙◌}
+use Rattle.std.proofs.Common.{flat_map, append_assoc, add-one, length-append}
 use Rattle.std.proofs.Math.Nat.{zero-mul, div-mul-le_self, mul-le-mul_right}
 use Rattle.std.proofs.Math.ListN.{drop_of_length-le}
 use Rattle.std.proofs.Math.Seq.{drop-append_seam}
@@ -22,7 +23,8 @@ places op ty count left right = flat_map (element_bytes ty) (zipped op ty (eleme
 -- one more place stands at the end
 pub places-suc : (op : Op) (ty : Datatype) (count : ℕ) (left right : List ℕ) →
     places op ty (suc count) left right ≡
-    places op ty count left right ++ element_bytes ty (applied op ty (element_at ty (drop (count * width ty) left)) (element_at ty (drop (count * width ty) right)))
+    places op ty count left right
+    ++ element_bytes ty (applied op ty (element_at ty (drop (count * width ty) left)) (element_at ty (drop (count * width ty) right)))
 places-suc op ty zero left right = rw (zero-mul (width ty)) (append-nil (element_bytes ty (applied op ty (element_at ty left) (element_at ty right))))
 places-suc op ty (suc count) left right =
     let first : List ℕ = element_bytes ty (applied op ty (element_at ty left) (element_at ty right)) in
@@ -45,7 +47,8 @@ take-drop_all at row = between_to_end row at (length row) (omega arith)
 
 -- one turn of the loop over the places
 pub take-put_mid-place : (op : Op) (ty : Datatype) (w place k : ℕ) (left right row new rest : List ℕ) → w ≡ width ty → place * w ≤ length row →
-    new ≡ element_bytes ty (applied op ty (element_at ty (take (length left - place * w) (drop (place * w) left))) (element_at ty (take (length right - place * w) (drop (place * w) right)))) ++ rest →
+    new ≡ element_bytes ty (applied op ty (element_at ty (take (length left - place * w) (drop (place * w) left)))
+    (element_at ty (take (length right - place * w) (drop (place * w) right)))) ++ rest →
     take (place * w) row ≡ places op ty place left right →
     take ((place + 1) * w) (put_mid (place * w) k row new) ≡ places op ty (place + 1) left right
 take-put_mid-place op ty w place k left right row new rest w_is within new_is so_far =
@@ -74,8 +77,10 @@ drop-put_mid-front a k row first rest n e within whole =
     ap (drop n) split ∙ ap (λ m. drop m (front ++ rest)) len ∙ drop-append_seam front rest
 
 -- one turn of the loop over the places of the left row itself: the places behind are those of the row as it was
-pub put_mid-place_into : (op : Op) (ty : Datatype) (w place k : ℕ) (left right row new : List ℕ) → w ≡ width ty → place * w ≤ length row → k ≡ length row - place * w →
-    new ≡ element_bytes ty (applied op ty (element_at ty (take (length row - place * w) (drop (place * w) row))) (element_at ty (take (length right - place * w) (drop (place * w) right))))
+pub put_mid-place_into : (op : Op) (ty : Datatype) (w place k : ℕ) (left right row new : List ℕ) → w ≡ width ty
+    → place * w ≤ length row → k ≡ length row - place * w →
+    new ≡ element_bytes ty (applied op ty (element_at ty (take (length row - place * w) (drop (place * w) row)))
+    (element_at ty (take (length right - place * w) (drop (place * w) right))))
     ++ drop (width ty) (take (length row - place * w) (drop (place * w) row)) →
     take (place * w) row ≡ places op ty place left right → drop (place * w) row ≡ drop (place * w) left →
     (take ((place + 1) * w) (put_mid (place * w) k row new) ≡ places op ty (place + 1) left right)

@@ -1,5 +1,6 @@
 -- Combinations along a list of rows, each made of the one before it.
-use Rattle.std.proofs.Common.{◌≡◌, ℕ, zero, suc, ◌+◌, ◌-◌, ◌%◌, ◌<◌, ◌≤◌, List, [], ◌∷◌, ◌++◌, length, take, get_or, map, refl, ap, sym, subst, ◌∙◌, arith, add-one, length-take, Vec, Global, min}
+use Rattle.std.proofs.Common.{◌≡◌, ℕ, zero, suc, ◌+◌, ◌-◌, ◌%◌, ◌<◌, ◌≤◌, List, [], ◌∷◌, ◌++◌, length, take, get_or, map, refl, ap, sym, subst, ◌∙◌}
+use Rattle.std.proofs.Common.{arith, add-one, length-take, Vec, Global, min}
 use Rattle.std.specs.Bool.{IsTrue}
 use Rattle.std.specs.List.{range_with_len}
 use Rattle.std.proofs.lemmas.Option.{unwrap_or-slice_get}
@@ -35,7 +36,8 @@ IsRow-combination op ty len (row ∷ []) some are = are.each 0 (omega arith)
 IsRow-combination op ty len (row ∷ next ∷ rows) some are = IsRow-combined op ty row (combination op ty (next ∷ rows)) (are.each 0 (omega arith))
 
 -- one more row at the end is the right operand
-pub combination-append : (op : Op) (ty : Datatype) (len : ℕ) (rows : List (List ℕ)) (row : List ℕ) → IsTrue (allowed op ty) → 0 < length rows → AreAlike ty len rows → IsRow ty row → length row ≡ len →
+pub combination-append : (op : Op) (ty : Datatype) (len : ℕ) (rows : List (List ℕ)) (row : List ℕ) → IsTrue (allowed op ty)
+    → 0 < length rows → AreAlike ty len rows → IsRow ty row → length row ≡ len →
     combination op ty (rows ++ row ∷ []) ≡ combined op ty (combination op ty rows) row
 combination-append op ty len [] row may some are is long = absurd (omega arith)
 combination-append op ty len (first ∷ []) row may some are is long = refl
@@ -80,7 +82,8 @@ AreAlike-take ty len read k rows are le = record { each = each; long = long }
       bytes = subst AreBytes (sym (row_of-take rows k i within)) (are.bytes i (let lt = (below i within).0 in omega arith));
     }
 
-pub length-prefix : (op : Op) (ty : Datatype) (len read k : ℕ) (rows : List (List ℕ)) → AreRead ty len read rows → k < read → k < length rows → length (prefix op ty rows k) ≡ len
+pub length-prefix : (op : Op) (ty : Datatype) (len read k : ℕ) (rows : List (List ℕ)) → AreRead ty len read rows → k < read
+    → k < length rows → length (prefix op ty rows k) ≡ len
 length-prefix op ty len read k rows are lt within =
     length-combination op ty len (take (k + 1) rows) are.whole (simp length-take (omega arith)) (AreAlike-take ty len read (k + 1) rows are (omega arith)).long
 
@@ -90,7 +93,8 @@ prefix-first op ty [] some = absurd (omega arith)
 prefix-first op ty (row ∷ rows) some = refl
 
 -- the row after a prefix is the right operand
-prefix-next : (op : Op) (ty : Datatype) (len i : ℕ) (rows : List (List ℕ)) → IsTrue (allowed op ty) → AreRead ty len i rows → 0 < i → i < length rows → AreBytes (row_of rows i) →
+prefix-next : (op : Op) (ty : Datatype) (len i : ℕ) (rows : List (List ℕ)) → IsTrue (allowed op ty) → AreRead ty len i rows
+    → 0 < i → i < length rows → AreBytes (row_of rows i) →
     prefix op ty rows i ≡ combined op ty (prefix op ty rows (i - 1)) (row_of rows i)
 prefix-next op ty len i rows may are some within bytes =
     let long : length (row_of rows i) ≡ len = are.long i within in
@@ -113,16 +117,19 @@ pub row_of-made : (f : ℕ → List ℕ) (made : List (Vec ℕ Global)) (n i : �
 row_of-made f made n i is lt = ap (λ rows. row_of rows i) is ∙ row_of-range f n i lt
 
 -- one more
-pub rows_of-more : (f : ℕ → List ℕ) (made : List (Vec ℕ Global)) (n : ℕ) (v : Vec ℕ Global) → rows_of made ≡ map f (range_with_len 0 n) → v.items ≡ f n → rows_of (made ++ v ∷ []) ≡ map f (range_with_len 0 (n + 1))
+pub rows_of-more : (f : ℕ → List ℕ) (made : List (Vec ℕ Global)) (n : ℕ) (v : Vec ℕ Global)
+    → rows_of made ≡ map f (range_with_len 0 n) → v.items ≡ f n → rows_of (made ++ v ∷ []) ≡ map f (range_with_len 0 (n + 1))
 rows_of-more f made n v is row =
-    rows_of-append made v ∙ (ap (λ rows. rows ++ v.items ∷ []) is ∙ (ap (λ last. map f (range_with_len 0 n) ++ last ∷ []) row ∙ sym (map-range_with_len_more f 0 n n (omega arith))))
+    rows_of-append made v ∙ (ap (λ rows. rows ++ v.items ∷ []) is
+    ∙ (ap (λ last. map f (range_with_len 0 n) ++ last ∷ []) row ∙ sym (map-range_with_len_more f 0 n n (omega arith))))
   where
     rows_of-append : (rows : List (Vec ℕ Global)) (v : Vec ℕ Global) → rows_of (rows ++ v ∷ []) ≡ rows_of rows ++ v.items ∷ []
     rows_of-append [] v = refl
     rows_of-append (row ∷ rows) v = ap (λ rest. row.items ∷ rest) (rows_of-append rows v)
 
 -- the values of the numbers from one further on
-map-range_shifted : (f g : ℕ → List ℕ) (a n : ℕ) → ((k : ℕ) → a ≤ k → k < a + n → f k ≡ g (k + 1)) → map f (range_with_len a n) ≡ map g (range_with_len (a + 1) n)
+map-range_shifted : (f g : ℕ → List ℕ) (a n : ℕ) → ((k : ℕ) → a ≤ k → k < a + n → f k ≡ g (k + 1))
+    → map f (range_with_len a n) ≡ map g (range_with_len (a + 1) n)
 map-range_shifted f g a zero same = refl
 map-range_shifted f g a (suc n) same =
     ap (λ first. first ∷ map f (range_with_len (a + 1) n)) (same a (omega arith) (omega arith))
@@ -131,7 +138,8 @@ map-range_shifted f g a (suc n) same =
 -- ---- one turn of the loop over the rows
 
 -- the sum is the first row, or the last sum with the row
-pub prefix-made : (op : Op) (ty : Datatype) (len n : ℕ) (rows : List (List ℕ)) (sums : List (Vec ℕ Global)) (row sum : List ℕ) → IsTrue (allowed op ty) → AreRead ty len n rows → n < length rows →
+pub prefix-made : (op : Op) (ty : Datatype) (len n : ℕ) (rows : List (List ℕ)) (sums : List (Vec ℕ Global)) (row sum : List ℕ)
+    → IsTrue (allowed op ty) → AreRead ty len n rows → n < length rows →
     rows_of sums ≡ map (prefix op ty rows) (range_with_len 0 n) → row ≡ row_of rows n → AreBytes row →
     (length sums ≡ 0 → sum ≡ row) → (0 < length sums → sum ≡ combined op ty (row_of (rows_of sums) (length sums - 1)) row) → sum ≡ prefix op ty rows n
 prefix-made op ty len zero rows sums row sum may are within is row_is bytes first next =
@@ -147,6 +155,8 @@ prefix-made op ty len (suc n) rows sums row sum may are within is row_is bytes f
 
 -- ---- the prefixes without a row's own
 
-pub prefixes-exclusive : (op : Op) (ty : Datatype) (n : ℕ) (rows : List (List ℕ)) → [] ∷ map (prefix op ty (take n rows)) (range_with_len 0 n) ≡ map (λ r. combination op ty (take r rows)) (range_with_len 0 (suc n))
+pub prefixes-exclusive : (op : Op) (ty : Datatype) (n : ℕ) (rows : List (List ℕ))
+    → [] ∷ map (prefix op ty (take n rows)) (range_with_len 0 n) ≡ map (λ r. combination op ty (take r rows)) (range_with_len 0 (suc n))
 prefixes-exclusive op ty n rows =
-    ap (λ rest. [] ∷ rest) (map-range_shifted (prefix op ty (take n rows)) (λ r. combination op ty (take r rows)) 0 n (λ k le lt. ap (combination op ty) (take-take (k + 1) n rows (omega arith))))
+    ap (λ rest. [] ∷ rest) (map-range_shifted (prefix op ty (take n rows)) (λ r. combination op ty (take r rows)) 0 n
+    (λ k le lt. ap (combination op ty) (take-take (k + 1) n rows (omega arith))))

@@ -1,5 +1,6 @@
 -- Rows that were written hold bytes.
-use Rattle.std.proofs.Common.{ℕ, zero, suc, ◌-◌, ◌/◌, ◌%◌, ◌^◌, ◌<◌, ◌≤◌, ◌⊎◌, inl, inr, List, [], ◌∷◌, ◌++◌, length, get_or, flat_map, ap, sym, subst, ◌∙◌, arith, mod-lt}
+use Rattle.std.proofs.Common.{ℕ, zero, suc, ◌-◌, ◌/◌, ◌%◌, ◌^◌, ◌<◌, ◌≤◌, ◌⊎◌, inl, inr, List, [], ◌∷◌, ◌++◌, length, get_or, flat_map, ap, sym}
+use Rattle.std.proofs.Common.{subst, ◌∙◌, arith, mod-lt}
 use Rattle.std.specs.Int.{byte_at, bytes_low_first}
 use Rattle.std.proofs.lemmas.Bool.{cases_lt}
 use Rattle.std.proofs.Math.ListN.{get_or-append}
@@ -29,7 +30,8 @@ AreBytes-low_first i (suc k) n (suc j) = AreBytes-low_first (suc i) k n j
 
 AreBytes-elements : (ty : Datatype) (zs : List Element) → AreBytes (flat_map (element_bytes ty) zs)
 AreBytes-elements ty [] = λ i. omega arith
-AreBytes-elements ty (z ∷ zs) = AreBytes-append (element_bytes ty z) (flat_map (element_bytes ty) zs) (AreBytes-low_first 0 (width ty) _) (AreBytes-elements ty zs)
+AreBytes-elements ty (z ∷ zs) =
+    AreBytes-append (element_bytes ty z) (flat_map (element_bytes ty) zs) (AreBytes-low_first 0 (width ty) _) (AreBytes-elements ty zs)
 
 -- a combination is a row
 pub IsRow-combined : (op : Op) (ty : Datatype) (a b : List ℕ) → IsRow ty a → IsRow ty (combined op ty a b)

@@ -1,5 +1,6 @@
 -- Lists of rows, and their combination from the end.
-use Rattle.std.proofs.Common.{◌≡◌, ℕ, zero, suc, ◌+◌, ◌*◌, ◌/◌, ◌%◌, ◌<◌, ◌≤◌, List, [], ◌∷◌, ◌++◌, length, drop, get_or, refl, arith, ap, sym, ◌∙◌, flat_map, length-append, Vec, Global, map, add-one, take, subst, append_assoc, length-take, length-drop}
+use Rattle.std.proofs.Common.{◌≡◌, ℕ, zero, suc, ◌+◌, ◌*◌, ◌/◌, ◌%◌, ◌<◌, ◌≤◌, List, [], ◌∷◌, ◌++◌, length, drop, get_or, refl, arith, ap, sym, ◌∙◌}
+use Rattle.std.proofs.Common.{flat_map, length-append, Vec, Global, map, add-one, take, subst, append_assoc, length-take, length-drop}
 use Rattle.std.proofs.lemmas.Nat.{div-add-mod'}
 use Rattle.std.proofs.lemmas.List.{append-nil}
 use Rattle.coll_kinds.specs.declared.datatype.Datatype.{Datatype}
@@ -21,7 +22,8 @@ length-rows_of [] = refl
 length-rows_of (row ∷ rows) = ap suc (length-rows_of rows)
 
 -- parts of the code's rows, by their place
-pub row_of-parts : (rows : List (Vec ℕ Global)) (at len i : ℕ) (v : Vec ℕ Global) → i < length rows → v ≡ get_or rows i v → row_of (map (part at len) (rows_of rows)) i ≡ part at len v.items
+pub row_of-parts : (rows : List (Vec ℕ Global)) (at len i : ℕ) (v : Vec ℕ Global) → i < length rows → v ≡ get_or rows i v
+    → row_of (map (part at len) (rows_of rows)) i ≡ part at len v.items
 row_of-parts [] at len i v within is = absurd (omega arith)
 row_of-parts (row ∷ rows) at len zero v within is = ap (λ w. part at len w.items) (sym is)
 row_of-parts (row ∷ rows) at len (suc i) v within is = row_of-parts rows at len i v (omega arith) is
@@ -30,7 +32,8 @@ pub length-parts : (rows : List (Vec ℕ Global)) (at len : ℕ) → length (map
 length-parts [] at len = refl
 length-parts (row ∷ rows) at len = ap suc (length-parts rows at len)
 
-pub part-fits : (rows : List (Vec ℕ Global)) (at len i : ℕ) (v : Vec ℕ Global) → HaveParts at len (rows_of rows) → i < length rows → v ≡ get_or rows i v → at + len ≤ length v.items
+pub part-fits : (rows : List (Vec ℕ Global)) (at len i : ℕ) (v : Vec ℕ Global) → HaveParts at len (rows_of rows)
+    → i < length rows → v ≡ get_or rows i v → at + len ≤ length v.items
 part-fits rows at len i v have within is =
     subst (λ (row : List ℕ). at + len ≤ length row) (row_of-rows_of rows i v within is) (have i (omega (arith, length-rows_of rows)))
 
@@ -91,7 +94,8 @@ length-combined op ty left right whole =
     ∙ omega (arith, div-add-mod' (length left) (width ty)))
 
 -- and so is one of more rows, where all have one length
-pub length-combination : (op : Op) (ty : Datatype) (len : ℕ) (rows : List (List ℕ)) → len % width ty ≡ 0 → 0 < length rows → ((i : ℕ) → i < length rows → length (row_of rows i) ≡ len) → length (combination op ty rows) ≡ len
+pub length-combination : (op : Op) (ty : Datatype) (len : ℕ) (rows : List (List ℕ)) → len % width ty ≡ 0 → 0 < length rows
+    → ((i : ℕ) → i < length rows → length (row_of rows i) ≡ len) → length (combination op ty rows) ≡ len
 length-combination op ty len [] whole some long = absurd (omega arith)
 length-combination op ty len (row ∷ []) whole some long = long 0 (omega arith)
 length-combination op ty len (row ∷ next ∷ rows) whole some long =

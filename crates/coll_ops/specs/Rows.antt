@@ -91,8 +91,10 @@ abbrev located_row : ℤ → ℤ → List ℕ
 located_row z at = element_bytes Pair (pair z at)
 
 -- the greatest value, and the least index of those that have it
-maxloc_of_three : value allreduce_maxloc (located_row (pos 7) (pos 2) ∷ located_row (pos 9) (pos 5) ∷ located_row (pos 9) (pos 1) ∷ []) 0 ≡ located_row (pos 9) (pos 1)
+maxloc_of_three : value allreduce_maxloc (located_row (pos 7) (pos 2) ∷ located_row (pos 9) (pos 5) ∷ located_row (pos 9) (pos 1) ∷ []) 0
+    ≡ located_row (pos 9) (pos 1)
 maxloc_of_three = refl
 
-minloc_of_three : value allreduce_minloc (located_row (negsuc 2) (pos 4) ∷ located_row (negsuc 2) (pos 0) ∷ located_row (pos 8) (pos 1) ∷ []) 0 ≡ located_row (negsuc 2) (pos 0)
+minloc_of_three : value allreduce_minloc (located_row (negsuc 2) (pos 4) ∷ located_row (negsuc 2) (pos 0) ∷ located_row (pos 8) (pos 1) ∷ []) 0
+    ≡ located_row (negsuc 2) (pos 0)
 minloc_of_three = refl

@@ -33,5 +33,6 @@ read_block b k c i buf h =
     ∙ read_part buf (k * b) (c * b) (i * b) (1 * b) (omega (arith, add-mul i 1 b))
 
 -- regions with the same bytes have the same blocks
-pub same_block : (b k l c i : ℕ) (xs ys : List ℕ) → i < c → read_of xs (blocks_at b k c) ≡ read_of ys (blocks_at b l c) → read_of xs (blocks_at b (k + i) 1) ≡ read_of ys (blocks_at b (l + i) 1)
+pub same_block : (b k l c i : ℕ) (xs ys : List ℕ) → i < c → read_of xs (blocks_at b k c) ≡ read_of ys (blocks_at b l c)
+    → read_of xs (blocks_at b (k + i) 1) ≡ read_of ys (blocks_at b (l + i) 1)
 same_block b k l c i xs ys h e = read_block b k c i xs h ∙ (ap (λ zs. take (1 * b) (drop (i * b) zs)) e ∙ sym (read_block b l c i ys h))

@@ -1,9 +1,11 @@
 -- Bruck's exchange: the rounds are lawful, and after i steps each member holds the blocks of the 2 ^ i members from itself
 -- on, and has heard them
-use Rattle.std.proofs.Common.{◌≡◌, ℕ, zero, suc, ◌+◌, ◌-◌, ◌*◌, ◌%◌, ◌^◌, ◌<◌, ◌≤◌, ◌⊎◌, inl, inr, eqb, List, [], ◌∷◌, length, Some, None, refl, sym, ap, subst, ◌∙◌, arith, eq-eqb, ne_eqb, mod-eq_of_lt, mod-lt, pow-suc}
+use Rattle.std.proofs.Common.{◌≡◌, ℕ, zero, suc, ◌+◌, ◌-◌, ◌*◌, ◌%◌, ◌^◌, ◌<◌, ◌≤◌, ◌⊎◌, inl, inr, eqb, List, [], ◌∷◌, length, Some, None, refl, sym}
+use Rattle.std.proofs.Common.{ap, subst, ◌∙◌, arith, eq-eqb, ne_eqb, mod-eq_of_lt, mod-lt, pow-suc}
 use Rattle.std.proofs.lemmas.Bool.{cases_eq, cases_lt, cond-true, cond-false}
 use Rattle.std.specs.List.{AllByRecursion}
-use Rattle.coll_sched.specs.Common.{Inside, read_of, AllApart, writes, IsRound, Family, actions_at, in_link, out_link, len_of, lock_step, messages, Receives, Heard, IsLawful}
+use Rattle.coll_sched.specs.Common.{Inside, read_of, AllApart, writes, IsRound, Family, actions_at, in_link, out_link, len_of, lock_step, messages}
+use Rattle.coll_sched.specs.Common.{Receives, Heard, IsLawful}
 use Rattle.coll_sched.specs.declared.action.Action.TheVariants.{Send, Copy, Recv}
 use Rattle.coll_sched.proofs.Buffers.{flip}
 use Rattle.coll_sched.proofs.Rounds.{GivenFits}
@@ -37,11 +39,16 @@ step_round b n s m p q short room = record {
 step_aligned : (b n s r p : ℕ) → r < n → p < n → s < n → len_of (in_link p (bruck_step b n s r)) ≡ len_of (out_link r (bruck_step b n s p))
 step_aligned b n s r p hr hp hs = go (cases_eq ((r + s) % n) p) (cases_eq ((p + (n - s)) % n) r)
   where
-    go : ((r + s) % n ≡ p) ⊎ ((r + s) % n ≡ p → ⊥) → ((p + (n - s)) % n ≡ r) ⊎ ((p + (n - s)) % n ≡ r → ⊥) → len_of (in_link p (bruck_step b n s r)) ≡ len_of (out_link r (bruck_step b n s p))
-    go (inl x) (inl y) = ap len_of (cond-true (eqb ((r + s) % n) p) (Some (blocks_at b s (block_count n s))) None (eq-eqb _ _ x)) ∙ sym (ap len_of (cond-true (eqb ((p + (n - s)) % n) r) (Some (blocks_at b 0 (block_count n s))) None (eq-eqb _ _ y)))
+    go : ((r + s) % n ≡ p) ⊎ ((r + s) % n ≡ p → ⊥) → ((p + (n - s)) % n ≡ r) ⊎ ((p + (n - s)) % n ≡ r → ⊥)
+        → len_of (in_link p (bruck_step b n s r)) ≡ len_of (out_link r (bruck_step b n s p))
+    go (inl x) (inl y) =
+        ap len_of (cond-true (eqb ((r + s) % n) p) (Some (blocks_at b s (block_count n s))) None (eq-eqb _ _ x))
+        ∙ sym (ap len_of (cond-true (eqb ((p + (n - s)) % n) r) (Some (blocks_at b 0 (block_count n s))) None (eq-eqb _ _ y)))
     go (inl x) (inr y) = absurd (y (meets_back n p r s hp hr hs x))
     go (inr x) (inl y) = absurd (x (meets n p r s hp hr hs y))
-    go (inr x) (inr y) = ap len_of (cond-false (eqb ((r + s) % n) p) (Some (blocks_at b s (block_count n s))) None (ne_eqb _ _ x)) ∙ sym (ap len_of (cond-false (eqb ((p + (n - s)) % n) r) (Some (blocks_at b 0 (block_count n s))) None (ne_eqb _ _ y)))
+    go (inr x) (inr y) =
+        ap len_of (cond-false (eqb ((r + s) % n) p) (Some (blocks_at b s (block_count n s))) None (ne_eqb _ _ x))
+        ∙ sym (ap len_of (cond-false (eqb ((p + (n - s)) % n) r) (Some (blocks_at b 0 (block_count n s))) None (ne_eqb _ _ y)))
 
 step_column : (b n s : ℕ) → s < n → IsColumn n (n * b + n * b) (bruck_step b n s)
 step_column b n s h = record {
@@ -78,7 +85,8 @@ rotation_column b n = local_column n (n * b + n * b) (rotation b n) (λ r. (tt, 
 
 pub bruck_columns : (b n k c : ℕ) → ((j : ℕ) → k ≤ j → j < k + c → 2 ^ j < n) → AllByRecursion (IsColumn n (n * b + n * b)) (bruck_rounds b n k c)
 bruck_columns b n k zero h = (rotation_column b n, tt)
-bruck_columns b n k (suc c) h = (step_column b n (2 ^ k) (h k (omega arith) (omega arith)), bruck_columns b n (suc k) c (λ j x y. h j (omega arith) (omega arith)))
+bruck_columns b n k (suc c) h =
+    (step_column b n (2 ^ k) (h k (omega arith) (omega arith)), bruck_columns b n (suc k) c (λ j x y. h j (omega arith) (omega arith)))
 
 pub length-bruck_rounds : (b n k c : ℕ) → length (bruck_rounds b n k c) ≡ suc c
 length-bruck_rounds b n k zero = refl
@@ -87,7 +95,8 @@ length-bruck_rounds b n k (suc c) = ap suc (length-bruck_rounds b n (suc k) c)
 pub bruck_rounds-at : (b n k c i : ℕ) → i < c → column_of (bruck_rounds b n k c) i ≡ bruck_step b n (2 ^ (k + i))
 bruck_rounds-at b n k zero i h = absurd (omega arith)
 bruck_rounds-at b n k (suc c) zero h = ap (λ e. bruck_step b n (2 ^ e)) (let z : k ≡ k + 0 = omega arith in z)
-bruck_rounds-at b n k (suc c) (suc i) h = bruck_rounds-at b n (suc k) c i (omega arith) ∙ ap (λ e. bruck_step b n (2 ^ e)) (let z : suc k + i ≡ k + suc i = omega arith in z)
+bruck_rounds-at b n k (suc c) (suc i) h =
+    bruck_rounds-at b n (suc k) c i (omega arith) ∙ ap (λ e. bruck_step b n (2 ^ e)) (let z : suc k + i ≡ k + suc i = omega arith in z)
 
 pub bruck_rounds-last : (b n k c : ℕ) → column_of (bruck_rounds b n k c) c ≡ rotation b n
 bruck_rounds-last b n k zero = refl
@@ -120,24 +129,36 @@ module _ (f : Family) (b n d : ℕ) (short : (i : ℕ) → i < d → 2 ^ i < n) 
       go more (inr x) = inr (
         (r + 2 ^ i) % n,
         from,
-        subst (Heard f i ((r + 2 ^ i) % n)) (two_steps n r (2 ^ i) m x) (more ((r + 2 ^ i) % n) (m - 2 ^ i) (mod-lt _ (omega arith)) (omega (arith, pow-suc 2 i)) (omega arith)),
+        subst (Heard f i ((r + 2 ^ i) % n)) (two_steps n r (2 ^ i) m x)
+            (more ((r + 2 ^ i) % n) (m - 2 ^ i) (mod-lt _ (omega arith)) (omega (arith, pow-suc 2 i)) (omega arith)),
       )
 
   module _ (lawful : IsLawful n f) (given : ℕ → List ℕ) (laid : GivenFits n f given) (room : (r : ℕ) → r < n → (f r).size ≡ n * b + n * b)
       (start : (r : ℕ) → r < n → read_of (lock_step f given 0 r) (blocks_at b 0 1) ≡ given r) where
     -- a step leaves the blocks that are there
-    step_kept : (i r m : ℕ) → i < d → r < n → m < 2 ^ i → m < n → read_of (lock_step f given (suc i) r) (blocks_at b m 1) ≡ read_of (lock_step f given i r) (blocks_at b m 1)
+    step_kept : (i r m : ℕ) → i < d → r < n → m < 2 ^ i → m < n
+        → read_of (lock_step f given (suc i) r) (blocks_at b m 1) ≡ read_of (lock_step f given i r) (blocks_at b m 1)
     step_kept i r m h hr near low =
         round_kept n f lawful given laid i r (blocks_at b m 1) hr
         (subst (λ size. Inside size (blocks_at b m 1)) (sym (room r hr)) (blocks_inside b n m 1 (omega arith)))
-        (subst (AllByRecursion (λ a. AllApart (writes a) (blocks_at b m 1 ∷ []))) (sym (moved i r h))
-        (tt, (((flip (blocks_at b m 1) (blocks_at b (2 ^ i) (block_count n (2 ^ i))) (blocks_apart b m 1 (2 ^ i) (block_count n (2 ^ i)) (omega arith)), tt), tt), tt)))
+        (subst (AllByRecursion (λ a. AllApart (writes a) (blocks_at b m 1 ∷ []))) (sym (moved i r h)) (
+          tt,
+          (
+            (
+              (flip (blocks_at b m 1) (blocks_at b (2 ^ i) (block_count n (2 ^ i))) (blocks_apart b m 1 (2 ^ i) (block_count n (2 ^ i)) (omega arith)), tt),
+              tt,
+            ),
+            tt,
+          ),
+        ))
 
     -- and brings those of the member 2 ^ i further
-    step_brings : (i r q m : ℕ) → i < d → r < n → q < n → (r + 2 ^ i) % n ≡ q → m < block_count n (2 ^ i) → read_of (lock_step f given (suc i) r) (blocks_at b (2 ^ i + m) 1) ≡ read_of (lock_step f given i q) (blocks_at b (0 + m) 1)
+    step_brings : (i r q m : ℕ) → i < d → r < n → q < n → (r + 2 ^ i) % n ≡ q → m < block_count n (2 ^ i)
+        → read_of (lock_step f given (suc i) r) (blocks_at b (2 ^ i + m) 1) ≡ read_of (lock_step f given i q) (blocks_at b (0 + m) 1)
     step_brings i r q m h hr hq e near =
         same_block b (2 ^ i) 0 (block_count n (2 ^ i)) m (lock_step f given (suc i) r) (lock_step f given i q) near
-        (round_held n f lawful given laid i r (Recv ((r + 2 ^ i) % n) (blocks_at b (2 ^ i) (block_count n (2 ^ i)))) (blocks_at b (2 ^ i) (block_count n (2 ^ i))) hr (receives i r h) refl
+        (round_held n f lawful given laid i r (Recv ((r + 2 ^ i) % n) (blocks_at b (2 ^ i) (block_count n (2 ^ i))))
+        (blocks_at b (2 ^ i) (block_count n (2 ^ i))) hr (receives i r h) refl
         ∙ (ap (messages f given i r) e
         ∙ message_is n f lawful given laid i r q (blocks_at b 0 (block_count n (2 ^ i))) hq (sends i r q h hr hq e)))
 
@@ -148,7 +169,8 @@ module _ (f : Family) (b n d : ℕ) (short : (i : ℕ) → i < d → 2 ^ i < n) 
         ∙ (start r hr ∙ ap given (sym (ap (λ x. x % n) (let z : r + m ≡ r = omega arith in z) ∙ mod-eq_of_lt hr)))
     bruck_held (suc i) r m h hr near low = go (λ q l hq x y. bruck_held i q l (omega arith) hq x y) (cases_lt m (2 ^ i))
       where
-        go : ((q l : ℕ) → q < n → l < 2 ^ i → l < n → read_of (lock_step f given i q) (blocks_at b l 1) ≡ given ((q + l) % n)) → (m < 2 ^ i) ⊎ (2 ^ i ≤ m) → read_of (lock_step f given (suc i) r) (blocks_at b m 1) ≡ given ((r + m) % n)
+        go : ((q l : ℕ) → q < n → l < 2 ^ i → l < n → read_of (lock_step f given i q) (blocks_at b l 1) ≡ given ((q + l) % n))
+            → (m < 2 ^ i) ⊎ (2 ^ i ≤ m) → read_of (lock_step f given (suc i) r) (blocks_at b m 1) ≡ given ((r + m) % n)
         go more (inl x) = step_kept i r m (omega arith) hr x low ∙ more r m hr x low
         go more (inr x) =
             let q_in : (r + 2 ^ i) % n < n = mod-lt _ (omega arith) in

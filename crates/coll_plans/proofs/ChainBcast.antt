@@ -1,5 +1,6 @@
 -- the family of a long bcast, along a chain
-use Rattle.std.proofs.Common.{◌≡◌, ℕ, ◌+◌, ◌-◌, ◌<◌, ◌≤◌, inr, true, false, cond, eqb, ltb, leb, List, length, None, refl, sym, ap, subst, ◌∙◌, arith, eq-eqb, eqb-true, lt-ltb, ltb-true, leb-true, unwrap_or}
+use Rattle.std.proofs.Common.{◌≡◌, ℕ, ◌+◌, ◌-◌, ◌<◌, ◌≤◌, inr, true, false, cond, eqb, ltb, leb, List, length, None, refl, sym, ap, subst, ◌∙◌, arith}
+use Rattle.std.proofs.Common.{eq-eqb, eqb-true, lt-ltb, ltb-true, leb-true, unwrap_or}
 use Rattle.std.proofs.lemmas.Bool.{cond-true, cond_both, and_parts}
 use Rattle.coll_kinds.specs.declared.signature.Signature.{Signature}
 use Rattle.coll_kinds.specs.declared.kind.Kind.TheVariants.{Bcast}
@@ -46,7 +47,9 @@ module _ (sig : Signature) (n : ℕ) (kind : sig.kind ≡ Bcast) (low : sig.root
   chain_lawful = lawful_family n b input (λ r. front b) columns (λ r h. input_in r) (λ r h. omega arith) (relaying_columns b n sig.root low 0 c)
 
   chain_rounds : (j r : ℕ) → j < c → actions_at (chain_family sig n) j r ≡ relay b n sig.root j r
-  chain_rounds j r h = round-column columns j r ∙ ap (λ (column : Column). column r) (relaying-at b n sig.root 0 c j h ∙ ap (relay b n sig.root) (let z : 0 + j ≡ j = omega arith in z))
+  chain_rounds j r h =
+      round-column columns j r
+      ∙ ap (λ (column : Column). column r) (relaying-at b n sig.root 0 c j h ∙ ap (relay b n sig.root) (let z : 0 + j ≡ j = omega arith in z))
 
   chain_length : (r : ℕ) → length (chain_family sig n r).rounds ≡ c
   chain_length r = length-rounds columns r ∙ length-relaying b n sig.root 0 c
@@ -55,7 +58,8 @@ module _ (sig : Signature) (n : ℕ) (kind : sig.kind ≡ Bcast) (low : sig.root
   number_in r h = number_low n sig.root r (from_root n sig.root r) h (from_root_is n sig.root r low)
 
   takes : (r : ℕ) → (input r).len ≡ given_len sig n r
-  takes r = elim (eqb r sig.root) as (λ t. (cond t (front b) nothing).len ≡ cond t b 0) [ true ↦ refl | false ↦ refl ] ∙ sym (ap (λ k. given_by k sig.root n r b (row_len sig)) kind)
+  takes r = elim (eqb r sig.root) as (λ t. (cond t (front b) nothing).len ≡ cond t b 0) [ true ↦ refl | false ↦ refl ]
+      ∙ sym (ap (λ k. given_by k sig.root n r b (row_len sig)) kind)
 
   module _ (given : List (List ℕ)) (are : AreGiven sig n given) where
     laid : GivenFits n (chain_family sig n) (row_of given)
@@ -67,8 +71,10 @@ module _ (sig : Signature) (n : ℕ) (kind : sig.kind ≡ Bcast) (low : sig.root
     begins : lock_step (chain_family sig n) (row_of given) 0 (member_at n sig.root 0) ≡ row_of given sig.root
     begins =
         ap (lock_step (chain_family sig n) (row_of given) 0) (member_at-root n sig.root low)
-        ∙ (sym (read_whole b (lock_step (chain_family sig n) (row_of given) 0 sig.root) (length_lock_step n (chain_family sig n) chain_lawful (row_of given) laid 0 sig.root low))
-        ∙ (ap (read_of (lock_step (chain_family sig n) (row_of given) 0 sig.root)) (sym (cond-true (eqb sig.root sig.root) (front b) nothing (eq-eqb sig.root sig.root refl)))
+        ∙ (sym (read_whole b (lock_step (chain_family sig n) (row_of given) 0 sig.root)
+        (length_lock_step n (chain_family sig n) chain_lawful (row_of given) laid 0 sig.root low))
+        ∙ (ap (read_of (lock_step (chain_family sig n) (row_of given) 0 sig.root))
+        (sym (cond-true (eqb sig.root sig.root) (front b) nothing (eq-eqb sig.root sig.root refl)))
         ∙ input_held n (chain_family sig n) chain_lawful (row_of given) laid sig.root low))
 
     ends : (v : ℕ) → v < n → member_at n sig.root v < n → lock_step (chain_family sig n) (row_of given) c (member_at n sig.root v) ≡ row_of given sig.root
@@ -93,7 +99,8 @@ module _ (sig : Signature) (n : ℕ) (kind : sig.kind ≡ Bcast) (low : sig.root
       let v : from_root n sig.root r < n = number_in r h in
       subst (λ j. Heard (chain_family sig n) j r p) (sym (chain_length r))
       (subst (λ q. Heard (chain_family sig n) c q p) (member_at-from_root n sig.root r low h)
-      (relay_hears (chain_family sig n) b n sig.root c low chain_rounds (omega arith) c (from_root n sig.root r) p (omega arith) v (omega arith) (same ∙ sym (member_at-root n sig.root low))))
+      (relay_hears (chain_family sig n) b n sig.root c low chain_rounds (omega arith) c (from_root n sig.root r) p (omega arith)
+      v (omega arith) (same ∙ sym (member_at-root n sig.root low))))
 
   chain_narrow : IsNarrowFor sig n (chain_family sig n) (relay_count n (block_len sig))
   chain_narrow = record {
@@ -109,15 +116,20 @@ module _ (sig : Signature) (n : ℕ) (kind : sig.kind ≡ Bcast) (low : sig.root
   }
 
 -- the family of a long bcast serves each checked one
-pub chain_serves : (sig : Signature) (n : ℕ) → broken sig n ≡ None → sig.kind ≡ Bcast → is_long n (block_len sig) ≡ true → IsNarrowFor sig n (chain_family sig n) (relay_count n (block_len sig))
+pub chain_serves : (sig : Signature) (n : ℕ) → broken sig n ≡ None → sig.kind ≡ Bcast → is_long n (block_len sig) ≡ true
+    → IsNarrowFor sig n (chain_family sig n) (relay_count n (block_len sig))
 chain_serves sig n h kind long =
     let parts = and_parts (ltb 1 n) (leb 65536 (block_len sig)) long in
     chain_narrow sig n kind (root_low sig n (checked sig n h) (ap has_root kind)) (ltb-true 1 n parts.0) (leb-true 65536 (block_len sig) parts.1)
 
 -- the parts that the builder makes are the family's
-pub chain_parts : (sig : Signature) (n r size : ℕ) (input output : Region) (rounds : List (List Action)) → size ≡ block_len sig → input ≡ cond (eqb r sig.root) (front size) nothing → output ≡ front size → rounds ≡ rounds_of (relaying size n sig.root 0 (relay_count n size)) r → ◌≡◌ {A = Parts} (record { size = size; input = input; output = output; rounds = rounds }) (chain_family sig n r)
+pub chain_parts : (sig : Signature) (n r size : ℕ) (input output : Region) (rounds : List (List Action)) → size ≡ block_len sig
+    → input ≡ cond (eqb r sig.root) (front size) nothing → output ≡ front size
+    → rounds ≡ rounds_of (relaying size n sig.root 0 (relay_count n size)) r
+    → ◌≡◌ {A = Parts} (record { size = size; input = input; output = output; rounds = rounds }) (chain_family sig n r)
 chain_parts sig n r size input output rounds e i o s =
     let i2 : input ≡ cond (eqb r sig.root) (front (block_len sig)) nothing = i ∙ ap (λ l. cond (eqb r sig.root) (front l) nothing) e in
     let o2 : output ≡ front (block_len sig) = o ∙ ap front e in
-    let s2 : rounds ≡ rounds_of (relaying (block_len sig) n sig.root 0 (relay_count n (block_len sig))) r = s ∙ ap (λ l. rounds_of (relaying l n sig.root 0 (relay_count n l)) r) e in
+    let s2 : rounds ≡ rounds_of (relaying (block_len sig) n sig.root 0 (relay_count n (block_len sig))) r =
+    s ∙ ap (λ l. rounds_of (relaying l n sig.root 0 (relay_count n l)) r) e in
     λ k. record { size = e k; input = i2 k; output = o2 k; rounds = s2 k }

@@ -27,7 +27,8 @@ at_segment b k d buf h =
     ∙ ap (λ j. get_or buf j d) (let z : k / 16384 * 16384 + k % 16384 ≡ k = omega arith in z))
 
 -- buffers with the same segments are the same
-pub same_segments : (b : ℕ) (xs ys : List ℕ) → length xs ≡ b → length ys ≡ b → ((i : ℕ) → i < segment_count b → read_of xs (segment b i) ≡ read_of ys (segment b i)) → xs ≡ ys
+pub same_segments : (b : ℕ) (xs ys : List ℕ) → length xs ≡ b → length ys ≡ b
+    → ((i : ℕ) → i < segment_count b → read_of xs (segment b i) ≡ read_of ys (segment b i)) → xs ≡ ys
 same_segments b xs ys x y same = same_lists _ _ (x ∙ sym y) (λ k d l.
     let h : k < b = omega arith in
     sym (at_segment b k d xs h) ∙ (ap (λ zs. get_or zs (k % 16384) d) (same (k / 16384) (omega arith)) ∙ at_segment b k d ys h))

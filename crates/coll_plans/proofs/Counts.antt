@@ -1,8 +1,10 @@
 -- How many actions a member of each family has
-use Rattle.std.proofs.Common.{◌≡◌, ℕ, zero, suc, ◌+◌, ◌-◌, ◌*◌, ◌%◌, ◌^◌, ◌≤◌, ◌&&◌, ◌||◌, cond, eqb, leb, ltb, Bool, true, false, None, [], ◌∷◌, ◌++◌, length, unwrap_or, arith, eqb-true, leb-true, length-append, mul-le-mul}
+use Rattle.std.proofs.Common.{◌≡◌, ℕ, zero, suc, ◌+◌, ◌-◌, ◌*◌, ◌%◌, ◌^◌, ◌≤◌, ◌&&◌, ◌||◌, cond, eqb, leb, ltb, Bool, true, false, None, [], ◌∷◌}
+use Rattle.std.proofs.Common.{◌++◌, length, unwrap_or, arith, eqb-true, leb-true, length-append, mul-le-mul}
 use Rattle.std.proofs.lemmas.Bool.{and_parts, cond_both}
 use Rattle.coll_kinds.specs.declared.kind.Kind.{Kind}
-use Rattle.coll_kinds.specs.declared.kind.Kind.TheVariants.{Barrier, Bcast, Gather, Scatter, Allgather, Allgatherv, Alltoall, Reduce, Allreduce, Rsblock, Scan, Exscan}
+use Rattle.coll_kinds.specs.declared.kind.Kind.TheVariants.{Barrier, Bcast, Gather, Scatter, Allgather, Allgatherv, Alltoall, Reduce, Allreduce}
+use Rattle.coll_kinds.specs.declared.kind.Kind.TheVariants.{Rsblock, Scan, Exscan}
 use Rattle.coll_kinds.specs.declared.operation.Op.{Op}
 use Rattle.coll_kinds.specs.declared.operation.Op.TheVariants.{Sum}
 use Rattle.coll_kinds.specs.declared.datatype.Datatype.{Datatype}
@@ -31,7 +33,8 @@ use Rattle.coll_plans.specs.BruckAllgather.{bruck_rounds}
 use Rattle.coll_plans.specs.DirectExchange.{alike, carries, chosen, exchange_by, keeps, recvs, sends}
 use Rattle.coll_plans.specs.DirectFamilies.{blocks_from, combines_below, one_block, own_row, row_at}
 use Rattle.coll_plans.specs.RecursiveDoublingHypercube.{corner, dimension, extra, mate, fold_part}
-use Rattle.coll_plans.specs.RecursiveDoubling.{recursive_doubling, give, fold_gives, joins_by, pair_up, fold_joins, tell, tells, exchange_at, exchange_joins, exchanges, hypercube_rounds}
+use Rattle.coll_plans.specs.RecursiveDoubling.{recursive_doubling, give, fold_gives, joins_by, pair_up, fold_joins, tell, tells, exchange_at}
+use Rattle.coll_plans.specs.RecursiveDoubling.{exchange_joins, exchanges, hypercube_rounds}
 use Rattle.coll_plans.specs.ChainBcast.{chain_family, is_long, is_passing, receipt_of, relay_count, relay_of, relaying, segment_count}
 use Rattle.coll_plans.specs.Plans.{family_by, most_actions}
 use Rattle.coll_plans.proofs.RecursiveDoublingHypercube.{dimension-most}
@@ -78,7 +81,12 @@ exchange-few pattern from into n r =
     let out : length (sends pattern (from r) r 0 n) ≤ n = chosen-few _ _ 0 n in
     let own : length (keeps pattern (from r) (into r) r) ≤ 1 = cond-few (carries pattern r r) _ [] 1 (omega arith) (omega arith) in
     let back : length (recvs pattern (into r) r 0 n) ≤ n = chosen-few _ _ 0 n in
-    omega (arith, length-append (sends pattern (from r) r 0 n) (keeps pattern (from r) (into r) r ++ recvs pattern (into r) r 0 n), length-append (keeps pattern (from r) (into r) r) (recvs pattern (into r) r 0 n))
+    omega (
+      arith,
+      length-append (sends pattern (from r) r 0 n)
+          (keeps pattern (from r) (into r) r ++ recvs pattern (into r) r 0 n),
+      length-append (keeps pattern (from r) (into r) r) (recvs pattern (into r) r 0 n),
+    )
 
 combines_below-few : (op : Op) (ty : Datatype) (blocks : Blocks) (k r : ℕ) → all_in (combines_below op ty blocks k) r ≤ k
 combines_below-few op ty blocks zero r = omega arith
@@ -126,7 +134,8 @@ recursive_doubling-few op ty b e d r =
     let first : length (give b e r) ≤ 1 = fold_gives-few b r (fold_part e r) in
     let then : length (pair_up op ty b e r) ≤ 1 = fold_joins-few op ty b (fold_part e r) in
     let last : all_in (tell b e ∷ []) r ≤ 1 = alone (tell b e) r 1 (tells-few b r (fold_part e r)) in
-    let all : all_in (hypercube_rounds op ty b e 0 d ++ (tell b e ∷ [])) r ≡ all_in (hypercube_rounds op ty b e 0 d) r + all_in (tell b e ∷ []) r = all_in-append (hypercube_rounds op ty b e 0 d) (tell b e ∷ []) r in
+    let all : all_in (hypercube_rounds op ty b e 0 d ++ (tell b e ∷ [])) r ≡ all_in (hypercube_rounds op ty b e 0 d) r + all_in (tell b e ∷ []) r =
+    all_in-append (hypercube_rounds op ty b e 0 d) (tell b e ∷ []) r in
     let exchanges : all_in (hypercube_rounds op ty b e 0 d) r ≤ 3 * d = hypercube_rounds-few op ty b e 0 d r in
     omega arith
 
@@ -163,20 +172,26 @@ count_is-most true count h = let e : count ≡ 0 = eqb-true count 0 h in omega a
 count_is-most false count h = leb-true count 65536 h
 
 block_len-most : (sig : Signature) (n : ℕ) → broken sig n ≡ None → block_len sig ≤ 524288
-block_len-most sig n h = mul-le-mul (count_is-most (is_barrier sig.kind || has_counts sig.kind) sig.count (and_parts (one_count_fits sig) (counts_fit sig.each sig.kind n) (checked sig n h).count_is).0) (width-most sig.ty)
+block_len-most sig n h =
+    mul-le-mul (count_is-most (is_barrier sig.kind || has_counts sig.kind) sig.count
+    (and_parts (one_count_fits sig) (counts_fit sig.each sig.kind n) (checked sig n h).count_is).0) (width-most sig.ty)
 
 -- the actions of each kind's schedules
 pub short_by : (k : Kind) (sig : Signature) (n : ℕ) → broken sig n ≡ None → n ≤ 64 → depth n ≤ 6 → (r : ℕ) → remaining (family_by k sig n r) 0 0 ≤ most_actions
 short_by Barrier sig n h few d r = omega (arith, barrier_rounds-few n 0 (depth n) r)
 short_by Bcast sig n h few d r =
     cond_both (is_long n (block_len sig)) (chain_family sig n) (bcast_family sig n) (λ f. remaining (f r) 0 0 ≤ most_actions)
-    (λ e. let short : block_len sig ≤ 524288 = block_len-most sig n h in omega (arith, relaying-few (block_len sig) n sig.root 0 (relay_count n (block_len sig)) r))
+    (λ e. let short : block_len sig ≤ 524288 =
+    block_len-most sig n h in omega (arith, relaying-few (block_len sig) n sig.root 0 (relay_count n (block_len sig)) r))
     (λ e. omega (arith, bcast_tree_rounds-few (block_len sig) n sig.root 0 (depth n) r))
-short_by Gather sig n h few d r = omega (arith, exchange-few (ToRoot sig.root) (alike (one_block (block_len sig))) (alike (blocks_from (block_len sig) (block_len sig))) n r)
-short_by Scatter sig n h few d r = omega (arith, exchange-few (FromRoot sig.root) (alike (blocks_from (block_len sig) (block_len sig))) (alike (one_block (block_len sig))) n r)
+short_by Gather sig n h few d r =
+    omega (arith, exchange-few (ToRoot sig.root) (alike (one_block (block_len sig))) (alike (blocks_from (block_len sig) (block_len sig))) n r)
+short_by Scatter sig n h few d r =
+    omega (arith, exchange-few (FromRoot sig.root) (alike (blocks_from (block_len sig) (block_len sig))) (alike (one_block (block_len sig))) n r)
 short_by Allgather sig n h few d r = omega (arith, bruck_rounds-few (block_len sig) n 0 (depth n) r)
 short_by Allgatherv sig n h few d r = omega (arith, exchange-few ToAll (λ q p. own_row (row_len sig) n q) (λ q p. row_at (row_len sig) p) n r)
-short_by Alltoall sig n h few d r = omega (arith, exchange-few ToAll (alike (blocks_from 0 (block_len sig))) (alike (blocks_from (n * block_len sig) (block_len sig))) n r)
+short_by Alltoall sig n h few d r =
+    omega (arith, exchange-few ToAll (alike (blocks_from 0 (block_len sig))) (alike (blocks_from (n * block_len sig) (block_len sig))) n r)
 short_by Reduce sig n h few d r =
     omega (
       arith,
@@ -193,5 +208,15 @@ short_by Rsblock sig n h few d r =
       exchange-few ToAll (alike (blocks_from 0 (block_len sig))) (alike (blocks_from (n * block_len sig) (block_len sig))) n r,
       combines_below-few (unwrap_or sig.op Sum) sig.ty (blocks_from (n * block_len sig) (block_len sig)) (n - 1) r,
     )
-short_by Scan sig n h few d r = omega (arith, doubling-few (block_len sig) n (join (unwrap_or sig.op Sum) sig.ty (block_len sig)) (join-few (unwrap_or sig.op Sum) sig.ty (block_len sig)) 0 (depth n) r)
-short_by Exscan sig n h few d r = omega (arith, doubling-few (block_len sig) n (join_both (unwrap_or sig.op Sum) sig.ty (block_len sig)) (join_both-few (unwrap_or sig.op Sum) sig.ty (block_len sig)) 0 (depth n) r)
+short_by Scan sig n h few d r =
+    omega (
+      arith,
+      doubling-few (block_len sig) n (join (unwrap_or sig.op Sum) sig.ty (block_len sig))
+          (join-few (unwrap_or sig.op Sum) sig.ty (block_len sig)) 0 (depth n) r,
+    )
+short_by Exscan sig n h few d r =
+    omega (
+      arith,
+      doubling-few (block_len sig) n (join_both (unwrap_or sig.op Sum) sig.ty (block_len sig))
+          (join_both-few (unwrap_or sig.op Sum) sig.ty (block_len sig)) 0 (depth n) r,
+    )

@@ -37,13 +37,17 @@ module _ (rows : ℕ → ℕ) (n : ℕ) where
       (exchange_column n ToAll (λ r p. own_row rows n r) (λ r q. row_at rows q) (λ r. total rows n + rows r) routed, tt)
 
   -- each ends with all rows
-  allgatherv_value : (given : List (List ℕ)) → length given ≡ n → ((r : ℕ) → r < n → length (row_of given r) ≡ rows r) → (r : ℕ) → r < n → result_at (allgatherv_by rows n) (row_of given) r ≡ all_rows given
+  allgatherv_value : (given : List (List ℕ)) → length given ≡ n → ((r : ℕ) → r < n → length (row_of given r) ≡ rows r) → (r : ℕ)
+      → r < n → result_at (allgatherv_by rows n) (row_of given) r ≡ all_rows given
   allgatherv_value given each long r low =
-      let all : total rows n ≡ total rows (0 + length given) - 0 = (let z : n ≡ 0 + length given = omega (arith, each) in let e : total rows n ≡ total rows (0 + length given) = ap (total rows) z in omega (arith, e)) in
+      let all : total rows n ≡ total rows (0 + length given) - 0 =
+      (let z : n ≡ 0 + length given = omega (arith, each) in let e : total rows n ≡ total rows (0 + length given) = ap (total rows) z in omega (arith, e))
+      in
       ap (λ l. read_of (lock_step (allgatherv_by rows n) (row_of given) 1 r) (front l)) all
       ∙ read-rows rows (lock_step (allgatherv_by rows n) (row_of given) 1 r) given 0
       (λ i h. ap (λ m. read_of (lock_step (allgatherv_by rows n) (row_of given) 1 r) (row_at rows m)) (let z : 0 + i ≡ i = omega arith in z)
-      ∙ (arrives n ToAll (λ q p. own_row rows n q) (λ q p. row_at rows p) (allgatherv_by rows n) allgatherv_lawful (λ q. refl) (row_of given) long r i low (omega (arith, h, each)) refl
+      ∙ (arrives n ToAll (λ q p. own_row rows n q) (λ q p. row_at rows p) (allgatherv_by rows n) allgatherv_lawful (λ q. refl)
+      (row_of given) long r i low (omega (arith, h, each)) refl
       ∙ input_held n (allgatherv_by rows n) allgatherv_lawful (row_of given) long i (omega (arith, h, each))))
 
 -- the family of allgatherv serves each allgatherv
@@ -53,11 +57,14 @@ allgatherv_serves sig n kind = record {
     lawful = allgatherv_lawful (row_len sig) n;
     takes_given = λ r h. takes r;
     gives_got = λ r h. sym (ap (λ k. got_by k sig.root n r (block_len sig) (row_len sig)) kind);
-    has_value = λ given are bytes r h. allgatherv_value (row_len sig) n given are.each (λ q l. are.long q l ∙ sym (takes q)) r h ∙ sym (ap (λ k. value_by k (unwrap_or sig.op Sum) sig.ty (block_len sig) sig.root given r) kind);
+    has_value = λ given are bytes r h. allgatherv_value (row_len sig) n given are.each (λ q l. are.long q l ∙ sym (takes q)) r h
+        ∙ sym (ap (λ k. value_by k (unwrap_or sig.op Sum) sig.ty (block_len sig) sig.root given r) kind);
     hears = λ r p h need. let parts = and_parts (ltb p n) (needs_of sig.kind sig.root r p) need in
-        hears n ToAll (λ q s. own_row (row_len sig) n q) (λ q s. row_at (row_len sig) s) (allgatherv_family sig n) (allgatherv_lawful (row_len sig) n) (λ q. refl) r p (ltb-true p n parts.0) refl;
+        hears n ToAll (λ q s. own_row (row_len sig) n q) (λ q s. row_at (row_len sig) s) (allgatherv_family sig n)
+        (allgatherv_lawful (row_len sig) n) (λ q. refl) r p (ltb-true p n parts.0) refl;
   };
-  few = direct_few n ToAll (λ r p. own_row (row_len sig) n r) (λ r q. row_at (row_len sig) q) (λ r. total (row_len sig) n + row_len sig r) (λ r. own_row (row_len sig) n r) (λ r. front (total (row_len sig) n)) [] tt;
+  few = direct_few n ToAll (λ r p. own_row (row_len sig) n r) (λ r q. row_at (row_len sig) q)
+      (λ r. total (row_len sig) n + row_len sig r) (λ r. own_row (row_len sig) n r) (λ r. front (total (row_len sig) n)) [] tt;
 }
   where
     takes : (r : ℕ) → row_len sig r ≡ given_by sig.kind sig.root n r (block_len sig) (row_len sig)

@@ -29,13 +29,16 @@ all_routed n b = record {
 
 module _ (n b : ℕ) where
   alltoall_lawful : IsLawful n (alltoall_by n b)
-  alltoall_lawful = lawful_columns n (alltoall_by n b) (exchange ToAll (blocks_from 0 b) (blocks_from (n * b) b) n ∷ []) (λ r. refl) (λ r h. omega arith) (λ r h. omega arith)
+  alltoall_lawful =
+      lawful_columns n (alltoall_by n b) (exchange ToAll (blocks_from 0 b) (blocks_from (n * b) b) n ∷ []) (λ r. refl) (λ r h. omega arith) (λ r h. omega arith)
       (exchange_column n ToAll (alike (blocks_from 0 b)) (alike (blocks_from (n * b) b)) (λ r. n * b + n * b) (all_routed n b), tt)
 
   -- each ends with its blocks of all rows
-  alltoall_value : (given : List (List ℕ)) → length given ≡ n → ((r : ℕ) → r < n → length (row_of given r) ≡ n * b) → (r : ℕ) → r < n → result_at (alltoall_by n b) (row_of given) r ≡ flat_map (block b r) given
+  alltoall_value : (given : List (List ℕ)) → length given ≡ n → ((r : ℕ) → r < n → length (row_of given r) ≡ n * b) → (r : ℕ)
+      → r < n → result_at (alltoall_by n b) (row_of given) r ≡ flat_map (block b r) given
   alltoall_value given each long r low =
-      got_all n ToAll (blocks_from 0 b) (n * b) (alltoall_by n b) alltoall_lawful (λ q. refl) given each long r low (λ q h. (refl, refl, block_within r n b low))
+      got_all n ToAll (blocks_from 0 b) (n * b) (alltoall_by n b) alltoall_lawful (λ q. refl) given each long r low
+      (λ q h. (refl, refl, block_within r n b low))
 
 -- the family of alltoall serves each alltoall
 pub alltoall_serves : (sig : Signature) (n : ℕ) → sig.kind ≡ Alltoall → IsDirectFor sig n (alltoall_family sig n) (direct_bound n)
@@ -44,11 +47,14 @@ alltoall_serves sig n kind = record {
     lawful = alltoall_lawful n (block_len sig);
     takes_given = λ r h. takes r;
     gives_got = λ r h. sym (ap (λ k. got_by k sig.root n r (block_len sig) (row_len sig)) kind);
-    has_value = λ given are bytes r h. alltoall_value n (block_len sig) given are.each (λ q l. are.long q l ∙ sym (takes q)) r h ∙ sym (ap (λ k. value_by k (unwrap_or sig.op Sum) sig.ty (block_len sig) sig.root given r) kind);
+    has_value = λ given are bytes r h. alltoall_value n (block_len sig) given are.each (λ q l. are.long q l ∙ sym (takes q)) r h
+        ∙ sym (ap (λ k. value_by k (unwrap_or sig.op Sum) sig.ty (block_len sig) sig.root given r) kind);
     hears = λ r p h need. let parts = and_parts (ltb p n) (needs_of sig.kind sig.root r p) need in
-        heard_of n ToAll (blocks_from 0 (block_len sig)) (blocks_from (n * block_len sig) (block_len sig)) (alltoall_family sig n) (alltoall_lawful n (block_len sig)) (λ q. refl) 0 r p (ltb-true p n parts.0) refl;
+        heard_of n ToAll (blocks_from 0 (block_len sig)) (blocks_from (n * block_len sig) (block_len sig))
+        (alltoall_family sig n) (alltoall_lawful n (block_len sig)) (λ q. refl) 0 r p (ltb-true p n parts.0) refl;
   };
-  few = direct_few n ToAll (alike (blocks_from 0 (block_len sig))) (alike (blocks_from (n * block_len sig) (block_len sig))) (λ r. n * block_len sig + n * block_len sig) (λ r. all_blocks 0 n (block_len sig)) (λ r. all_blocks (n * block_len sig) n (block_len sig)) [] tt;
+  few = direct_few n ToAll (alike (blocks_from 0 (block_len sig))) (alike (blocks_from (n * block_len sig) (block_len sig)))
+      (λ r. n * block_len sig + n * block_len sig) (λ r. all_blocks 0 n (block_len sig)) (λ r. all_blocks (n * block_len sig) n (block_len sig)) [] tt;
 }
   where
     takes : (r : ℕ) → n * block_len sig ≡ given_by sig.kind sig.root n r (block_len sig) (row_len sig)

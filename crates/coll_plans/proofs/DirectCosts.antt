@@ -26,7 +26,8 @@ local_costs [] h = free
 local_costs (c ∷ cs) h = local_round h.0 (local_costs cs h.1)
 
 -- one exchange, and none of a single member, where only local rounds follow
-pub direct_few : (n : ℕ) (pattern : Pattern) (from into : ℕ → ℕ → Region) (size : ℕ → ℕ) (input output : ℕ → Region) (rest : List Column) → AllByRecursion IsLocalColumn rest → family_exchanges n (family_with size input output (exchange_by pattern from into n ∷ rest)) ≤ direct_bound n
+pub direct_few : (n : ℕ) (pattern : Pattern) (from into : ℕ → ℕ → Region) (size : ℕ → ℕ) (input output : ℕ → Region) (rest : List Column)
+    → AllByRecursion IsLocalColumn rest → family_exchanges n (family_with size input output (exchange_by pattern from into n ∷ rest)) ≤ direct_bound n
 direct_few n pattern from into size input output rest h = cond_both (eqb n 1) 0 1 (λ m. family_exchanges n f ≤ m)
     (λ e. no_exchanges n f (λ j r low. ap (list_any has_peer) (round-column (exchange_by pattern from into n ∷ rest) j r) ∙ alone (eqb-true n 1 e) j r low))
     (λ e. few_exchanges n 0 input output (exchange_by pattern from into n ∷ rest) 1 (exchange (local_costs rest h)))

@@ -31,7 +31,9 @@ rows_apart rows i k d = go (cases_lt i k)
     go (inr h) m x y z w = let l : total rows k + rows k ≤ total rows i = row_within rows k i (omega arith) in omega arith
 
 -- where each row lies in its place, they lie joined
-pub read-rows : (rows : ℕ → ℕ) (buf : List ℕ) (given : List (List ℕ)) (k : ℕ) → ((i : ℕ) → i < length given → read_of buf (row_at rows (k + i)) ≡ row_of given i) → read_of buf (record { at = total rows k; len = total rows (k + length given) - total rows k }) ≡ all_rows given
+pub read-rows : (rows : ℕ → ℕ) (buf : List ℕ) (given : List (List ℕ)) (k : ℕ)
+    → ((i : ℕ) → i < length given → read_of buf (row_at rows (k + i)) ≡ row_of given i)
+    → read_of buf (record { at = total rows k; len = total rows (k + length given) - total rows k }) ≡ all_rows given
 read-rows rows buf [] k h =
     let z : k + 0 ≡ k = omega arith in
     let e : total rows (k + 0) ≡ total rows k = ap (total rows) z in
@@ -42,8 +44,10 @@ read-rows rows buf (row ∷ given) k h =
     let s : k + suc (length given) ≡ suc k + length given = omega arith in
     let all : total rows (k + suc (length given)) ≡ total rows (suc k + length given) = ap (total rows) s in
     let grows : total rows (suc k) ≤ total rows (suc k + length given) = total_grows rows (suc k) (length given) in
-    let split : total rows (k + suc (length given)) - total rows k ≡ rows k + (total rows (suc k + length given) - total rows (suc k)) = omega (arith, all, grows) in
+    let split : total rows (k + suc (length given)) - total rows k ≡ rows k + (total rows (suc k + length given) - total rows (suc k)) =
+    omega (arith, all, grows) in
     ap (λ l. take l (drop (total rows k) buf)) split
     ∙ (read_split buf (total rows k) (rows k) (total rows (suc k + length given) - total rows (suc k))
     ∙ (ap (λ xs. xs ++ read_of buf (record { at = total rows (suc k); len = total rows (suc k + length given) - total rows (suc k) })) first
-    ∙ ap (λ xs. row ++ xs) (read-rows rows buf given (suc k) (λ i low. ap (λ m. read_of buf (row_at rows m)) (let e : suc k + i ≡ k + suc i = omega arith in e) ∙ h (suc i) (omega arith)))))
+    ∙ ap (λ xs. row ++ xs) (read-rows rows buf given (suc k)
+    (λ i low. ap (λ m. read_of buf (row_at rows m)) (let e : suc k + i ≡ k + suc i = omega arith in e) ∙ h (suc i) (omega arith)))))

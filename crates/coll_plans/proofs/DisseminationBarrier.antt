@@ -1,5 +1,6 @@
 -- dissemination: the barrier's family is lawful and narrow, and each member hears all
-use Rattle.std.proofs.Common.{◌≡◌, ℕ, zero, suc, ◌+◌, ◌-◌, ◌%◌, ◌^◌, ◌<◌, ◌≤◌, ◌⊎◌, inl, inr, true, eqb, ltb, length, Some, None, refl, sym, ap, subst, ◌∙◌, arith, eq-eqb, ne_eqb, mod-lt, pow-suc, ltb-true, unwrap_or}
+use Rattle.std.proofs.Common.{◌≡◌, ℕ, zero, suc, ◌+◌, ◌-◌, ◌%◌, ◌^◌, ◌<◌, ◌≤◌, ◌⊎◌, inl, inr, true, eqb, ltb, length, Some, None, refl, sym, ap}
+use Rattle.std.proofs.Common.{subst, ◌∙◌, arith, eq-eqb, ne_eqb, mod-lt, pow-suc, ltb-true, unwrap_or}
 use Rattle.std.proofs.lemmas.Bool.{cases_eq, cases_lt, cond-true, cond-false, and_parts}
 use Rattle.std.specs.List.{AllByRecursion}
 use Rattle.coll_kinds.specs.declared.signature.Signature.{Signature}
@@ -24,17 +25,28 @@ step_short n j h = depth_short 6 0 n j (omega arith) h
 meeting_round : (n s r : ℕ) → IsRound 0 (barrier_round n s r)
 meeting_round n s r = record {
   fits = (omega arith, (omega arith, tt));
-  follows = ((record { in_order = omega arith; other_peer = tt; read_later = tt; read_before = (((λ k a b c d. omega arith), tt), tt); both_written = tt }, tt), (tt, tt));
+  follows = (
+    (
+      record { in_order = omega arith; other_peer = tt; read_later = tt; read_before = (((λ k a b c d. omega arith), tt), tt); both_written = tt },
+      tt,
+    ),
+    (tt, tt),
+  );
 }
 
 meeting_aligned : (n r p s : ℕ) → r < n → p < n → s < n → len_of (in_link p (barrier_round n s r)) ≡ len_of (out_link r (barrier_round n s p))
 meeting_aligned n r p s hr hp hs = go (cases_eq ((r + (n - s)) % n) p) (cases_eq ((p + s) % n) r)
   where
-    go : ((r + (n - s)) % n ≡ p) ⊎ ((r + (n - s)) % n ≡ p → ⊥) → ((p + s) % n ≡ r) ⊎ ((p + s) % n ≡ r → ⊥) → len_of (in_link p (barrier_round n s r)) ≡ len_of (out_link r (barrier_round n s p))
-    go (inl x) (inl y) = ap len_of (cond-true (eqb ((r + (n - s)) % n) p) (Some nothing) None (eq-eqb _ _ x)) ∙ sym (ap len_of (cond-true (eqb ((p + s) % n) r) (Some nothing) None (eq-eqb _ _ y)))
+    go : ((r + (n - s)) % n ≡ p) ⊎ ((r + (n - s)) % n ≡ p → ⊥) → ((p + s) % n ≡ r) ⊎ ((p + s) % n ≡ r → ⊥)
+        → len_of (in_link p (barrier_round n s r)) ≡ len_of (out_link r (barrier_round n s p))
+    go (inl x) (inl y) =
+        ap len_of (cond-true (eqb ((r + (n - s)) % n) p) (Some nothing) None (eq-eqb _ _ x))
+        ∙ sym (ap len_of (cond-true (eqb ((p + s) % n) r) (Some nothing) None (eq-eqb _ _ y)))
     go (inl x) (inr y) = absurd (y (meets n r p s hr hp hs x))
     go (inr x) (inl y) = absurd (x (meets_back n r p s hr hp hs y))
-    go (inr x) (inr y) = ap len_of (cond-false (eqb ((r + (n - s)) % n) p) (Some nothing) None (ne_eqb _ _ x)) ∙ sym (ap len_of (cond-false (eqb ((p + s) % n) r) (Some nothing) None (ne_eqb _ _ y)))
+    go (inr x) (inr y) =
+        ap len_of (cond-false (eqb ((r + (n - s)) % n) p) (Some nothing) None (ne_eqb _ _ x))
+        ∙ sym (ap len_of (cond-false (eqb ((p + s) % n) r) (Some nothing) None (ne_eqb _ _ y)))
 
 meeting_column : (n s : ℕ) → 0 < n → s < n → IsColumn n 0 (barrier_round n s)
 meeting_column n s pos h = record {
@@ -47,7 +59,8 @@ meeting_column n s pos h = record {
 
 meetings_columns : (n k c : ℕ) → 0 < n → ((j : ℕ) → k ≤ j → j < k + c → 2 ^ j < n) → AllByRecursion (IsColumn n 0) (barrier_rounds n k c)
 meetings_columns n k zero pos h = tt
-meetings_columns n k (suc c) pos h = (meeting_column n (2 ^ k) pos (h k (omega arith) (omega arith)), meetings_columns n (suc k) c pos (λ j x y. h j (omega arith) (omega arith)))
+meetings_columns n k (suc c) pos h =
+    (meeting_column n (2 ^ k) pos (h k (omega arith) (omega arith)), meetings_columns n (suc k) c pos (λ j x y. h j (omega arith) (omega arith)))
 
 pub all_columns : (n : ℕ) → 0 < n → AllByRecursion (IsColumn n 0) (barrier_rounds n 0 (depth n))
 all_columns n pos = meetings_columns n 0 (depth n) pos (λ j x y. step_short n j (omega arith))
@@ -59,7 +72,8 @@ length-barrier_rounds n k (suc c) = ap suc (length-barrier_rounds n (suc k) c)
 barrier_rounds-at : (n k c i : ℕ) → i < c → column_of (barrier_rounds n k c) i ≡ barrier_round n (2 ^ (k + i))
 barrier_rounds-at n k zero i h = absurd (omega arith)
 barrier_rounds-at n k (suc c) zero h = ap (λ e. barrier_round n (2 ^ e)) (let z : k ≡ k + 0 = omega arith in z)
-barrier_rounds-at n k (suc c) (suc i) h = barrier_rounds-at n (suc k) c i (omega arith) ∙ ap (λ e. barrier_round n (2 ^ e)) (let z : suc k + i ≡ k + suc i = omega arith in z)
+barrier_rounds-at n k (suc c) (suc i) h =
+    barrier_rounds-at n (suc k) c i (omega arith) ∙ ap (λ e. barrier_round n (2 ^ e)) (let z : suc k + i ≡ k + suc i = omega arith in z)
 
 meetings_costs : (n k c : ℕ) → Costs (barrier_rounds n k c) c
 meetings_costs n k zero = free
@@ -91,7 +105,8 @@ hears_within sig n (suc j) r p i low hr hp hi b = go short (λ q k l m c. hears_
     near d (wraps l x) (inl e) h = inl (omega arith)
     near d (wraps l x) (inr e) h = inr (omega arith)
 
-    go : 2 ^ j < n → ((q k : ℕ) → q < n → k < 2 ^ j → Before n q p k → Heard (barrier_family sig n) j q p) → (i < 2 ^ j) ⊎ (2 ^ j ≤ i) → Heard (barrier_family sig n) (suc j) r p
+    go : 2 ^ j < n → ((q k : ℕ) → q < n → k < 2 ^ j → Before n q p k → Heard (barrier_family sig n) j q p)
+        → (i < 2 ^ j) ⊎ (2 ^ j ≤ i) → Heard (barrier_family sig n) (suc j) r p
     go d more (inl h) = inl (more r i hr h b)
     go d more (inr h) = inr (
       (r + (n - 2 ^ j)) % n,

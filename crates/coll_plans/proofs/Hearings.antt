@@ -14,7 +14,8 @@ any_received P (Copy from into ∷ acts) e = let r = any_received P acts e in (r
 any_received P (Combine op ty left right into ∷ acts) e = let r = any_received P acts e in (r.0, inr r.1, r.2)
 any_received P (Recv of into ∷ acts) e = go (λ e. any_received P acts e) (P of) refl e
   where
-    go : (list_any (hears_from P) acts ≡ true → (q : ℕ) × Receives acts q × (P q ≡ true)) → (b : Bool) → P of ≡ b → (b || list_any (hears_from P) acts) ≡ true → (q : ℕ) × Receives (Recv of into ∷ acts) q × (P q ≡ true)
+    go : (list_any (hears_from P) acts ≡ true → (q : ℕ) × Receives acts q × (P q ≡ true)) → (b : Bool) → P of ≡ b
+        → (b || list_any (hears_from P) acts) ≡ true → (q : ℕ) × Receives (Recv of into ∷ acts) q × (P q ≡ true)
     go rest true is e = (of, inl refl, is)
     go rest false is e = let r = rest e in (r.0, inr r.1, r.2)
 
@@ -37,7 +38,8 @@ received_any P (Combine op ty left right into ∷ acts) q (inr r) e = received_a
 received_any P (Recv of into ∷ acts) q (inl r) e = or_first (P of) (list_any (hears_from P) acts) (ap P r ∙ e)
 received_any P (Recv of into ∷ acts) q (inr r) e = or_second (P of) (list_any (hears_from P) acts) (received_any P acts q r e)
 
-heard_step : (f : Family) (j r p : ℕ) → ((q : ℕ) → heard_in f j q p ≡ true → Heard f j q p) → (b : Bool) → heard_in f j r p ≡ b → (b || list_any (hears_from (λ q. heard_in f j q p)) (actions_at f j r)) ≡ true → Heard f (suc j) r p
+heard_step : (f : Family) (j r p : ℕ) → ((q : ℕ) → heard_in f j q p ≡ true → Heard f j q p) → (b : Bool) → heard_in f j r p ≡ b
+    → (b || list_any (hears_from (λ q. heard_in f j q p)) (actions_at f j r)) ≡ true → Heard f (suc j) r p
 heard_step f j r p before true is e = inl (before r is)
 heard_step f j r p before false is e = let q = any_received (λ q. heard_in f j q p) (actions_at f j r) e in inr (q.0, q.1, before q.0 q.2)
 
@@ -49,7 +51,8 @@ pub is_heard : (f : Family) (j r p : ℕ) → Heard f j r p → heard_in f j r p
 is_heard f zero r p e = eq-eqb p r e
 is_heard f (suc j) r p (inl h) = or_first (heard_in f j r p) (list_any (hears_from (λ q. heard_in f j q p)) (actions_at f j r)) (is_heard f j r p h)
 is_heard f (suc j) r p (inr h) =
-    or_second (heard_in f j r p) (list_any (hears_from (λ q. heard_in f j q p)) (actions_at f j r)) (received_any (λ q. heard_in f j q p) (actions_at f j r) h.0 h.1 (is_heard f j h.0 p h.2))
+    or_second (heard_in f j r p) (list_any (hears_from (λ q. heard_in f j q p)) (actions_at f j r))
+    (received_any (λ q. heard_in f j q p) (actions_at f j r) h.0 h.1 (is_heard f j h.0 p h.2))
 
 pub heard_is_heard : HeardIsHeard
 heard_is_heard f j r p = (heard_is f j r p, is_heard f j r p)

@@ -1,8 +1,10 @@
 -- the family of every checked signature serves it, within its kind's bound
-use Rattle.std.proofs.Common.{◌≡◌, ℕ, ◌<◌, ◌≤◌, ◌⊎◌, inl, inr, Bool, true, false, cond, Option, Some, None, MatchOption, Result, Ok, Err, IsOk, IfOk, IsErrOf, IsOkUnless, refl, sym, ap, subst, ◌∙◌}
+use Rattle.std.proofs.Common.{◌≡◌, ℕ, ◌<◌, ◌≤◌, ◌⊎◌, inl, inr, Bool, true, false, cond, Option, Some, None, MatchOption, Result, Ok, Err, IsOk, IfOk}
+use Rattle.std.proofs.Common.{IsErrOf, IsOkUnless, refl, sym, ap, subst, ◌∙◌}
 use Rattle.std.proofs.lemmas.Bool.{cases_Bool, false≢true}
 use Rattle.coll_kinds.specs.declared.kind.Kind.{Kind}
-use Rattle.coll_kinds.specs.declared.kind.Kind.TheVariants.{Barrier, Bcast, Gather, Scatter, Allgather, Allgatherv, Alltoall, Reduce, Allreduce, Rsblock, Scan, Exscan}
+use Rattle.coll_kinds.specs.declared.kind.Kind.TheVariants.{Barrier, Bcast, Gather, Scatter, Allgather, Allgatherv, Alltoall, Reduce, Allreduce}
+use Rattle.coll_kinds.specs.declared.kind.Kind.TheVariants.{Rsblock, Scan, Exscan}
 use Rattle.coll_kinds.specs.declared.signature.Signature.{Signature}
 use Rattle.coll_kinds.specs.declared.refusal.Refusal.{Refusal}
 use Rattle.coll_kinds.specs.declared.refusal.Refusal.TheVariants.{BadSignature, NoMemory}
@@ -31,7 +33,8 @@ use Rattle.coll_plans.proofs.DirectAlltoall.{alltoall_serves}
 use Rattle.coll_plans.proofs.DirectRsblock.{rsblock_serves}
 
 -- a narrow family of the kind, and a direct one
-of_narrow : (sig : Signature) (n : ℕ) (k : Kind) → broken sig n ≡ None → n ≤ 64 → sig.kind ≡ k → IsNarrowFor sig n (family_by k sig n) (most_exchanges_by k sig n) → IsPlanned sig n (family_by sig.kind sig n)
+of_narrow : (sig : Signature) (n : ℕ) (k : Kind) → broken sig n ≡ None → n ≤ 64 → sig.kind ≡ k
+    → IsNarrowFor sig n (family_by k sig n) (most_exchanges_by k sig n) → IsPlanned sig n (family_by sig.kind sig n)
 of_narrow sig n k rules top e h = record {
   serves = subst (λ x. Serves sig n (family_by x sig n)) (sym e) h.serves;
   few = subst (λ x. family_exchanges n (family_by x sig n) ≤ most_exchanges_by x sig n) (sym e) h.few;
@@ -39,7 +42,8 @@ of_narrow sig n k rules top e h = record {
   narrow = λ d. subst (λ x. IsNarrow n (family_by x sig n)) (sym e) h.narrow;
 }
 
-of_direct : (sig : Signature) (n : ℕ) (k : Kind) → broken sig n ≡ None → n ≤ 64 → sig.kind ≡ k → is_direct k ≡ true → IsDirectFor sig n (family_by k sig n) (most_exchanges_by k sig n) → IsPlanned sig n (family_by sig.kind sig n)
+of_direct : (sig : Signature) (n : ℕ) (k : Kind) → broken sig n ≡ None → n ≤ 64 → sig.kind ≡ k → is_direct k ≡ true
+    → IsDirectFor sig n (family_by k sig n) (most_exchanges_by k sig n) → IsPlanned sig n (family_by sig.kind sig n)
 of_direct sig n k rules top e direct h = record {
   serves = subst (λ x. Serves sig n (family_by x sig n)) (sym e) h.serves;
   few = subst (λ x. family_exchanges n (family_by x sig n) ≤ most_exchanges_by x sig n) (sym e) h.few;
@@ -77,17 +81,21 @@ unfolding family
 all_served sig n h pos top = by_kind sig n h pos top sig.kind refl
 
 -- what the kind's builder makes is a schedule of the family
-pub of_kind : (sig : Signature) (n r : ℕ) (k : Kind) (made : Result Parts Refusal) → sig.kind ≡ k → IfOk made (λ s. s ≡ family_by k sig n r) → IfOk made (λ s. s ≡ family sig n r)
+pub of_kind : (sig : Signature) (n r : ℕ) (k : Kind) (made : Result Parts Refusal) → sig.kind ≡ k
+    → IfOk made (λ s. s ≡ family_by k sig n r) → IfOk made (λ s. s ≡ family sig n r)
 unfolding family
 of_kind sig n r k made e h = subst (λ x. IfOk made (λ s. s ≡ family_by x sig n r)) (sym e) h
 
 -- an accepted signature breaks no rule
-pub unbroken : (o : Option SignatureFault) (done : Unit {0}) → MatchOption o (IsOk {T = Unit {0}} {E = Refusal} (Ok done)) (λ cause. IsErrOf {T = Unit {0}} {E = Refusal} (Ok done) (BadSignature cause)) → o ≡ None
+pub unbroken : (o : Option SignatureFault) (done : Unit {0})
+    → MatchOption o (IsOk {T = Unit {0}} {E = Refusal} (Ok done)) (λ cause. IsErrOf {T = Unit {0}} {E = Refusal} (Ok done) (BadSignature cause)) → o ≡ None
 unbroken None done h = refl
 unbroken (Some cause) done h = let e : ◌≡◌ {A = Result (Unit {0}) Refusal} (Ok done) (Err (BadSignature cause)) = h in absurd (cc)
 
 -- a refused one is refused by a plan in the same words
-pub refused : (o : Option SignatureFault) (why : Refusal) → MatchOption o (IsOk {T = Unit {0}} {E = Refusal} (Err why)) (λ cause. IsErrOf {T = Unit {0}} {E = Refusal} (Err why) (BadSignature cause)) → MatchOption o (IsOkUnless {T = Planned} {E = Refusal} (Err why) NoMemory) (λ cause. IsErrOf {T = Planned} {E = Refusal} (Err why) (BadSignature cause))
+pub refused : (o : Option SignatureFault) (why : Refusal)
+    → MatchOption o (IsOk {T = Unit {0}} {E = Refusal} (Err why)) (λ cause. IsErrOf {T = Unit {0}} {E = Refusal} (Err why) (BadSignature cause))
+    → MatchOption o (IsOkUnless {T = Planned} {E = Refusal} (Err why) NoMemory) (λ cause. IsErrOf {T = Planned} {E = Refusal} (Err why) (BadSignature cause))
 refused None why h = absurd (false≢true h)
 refused (Some cause) why h =
     let e : ◌≡◌ {A = Result (Unit {0}) Refusal} (Err why) (Err (BadSignature cause)) = h in
@@ -95,5 +103,6 @@ refused (Some cause) why h =
     λ k. Err (same k)
 
 -- an accepted one is refused for memory alone
-pub accepted : (o : Option SignatureFault) (made : Result Planned Refusal) → o ≡ None → IsOkUnless made NoMemory → MatchOption o (IsOkUnless made NoMemory) (λ cause. IsErrOf made (BadSignature cause))
+pub accepted : (o : Option SignatureFault) (made : Result Planned Refusal) → o ≡ None → IsOkUnless made NoMemory
+    → MatchOption o (IsOkUnless made NoMemory) (λ cause. IsErrOf made (BadSignature cause))
 accepted o made e h = subst (λ x. MatchOption x (IsOkUnless made NoMemory) (λ cause. IsErrOf made (BadSignature cause))) (sym e) h

@@ -1,5 +1,7 @@
 -- the family of exscan, by prefix doubling
-use Rattle.std.proofs.Common.{◌≡◌, ◌≢◌, ℕ, zero, suc, ◌+◌, ◌-◌, ◌%◌, ◌^◌, ◌<◌, ◌≤◌, ◌⊎◌, inl, inr, Bool, true, false, min, cond, eqb, ltb, leb, List, [], ◌∷◌, length, take, Some, None, IsTrue, refl, sym, ap, subst, ◌∙◌, arith, unwrap_or, eq-eqb, ne_eqb, le-leb, ltb-true, pow-suc, pow_pos}
+use Rattle.std.proofs.Common.{◌≡◌, ◌≢◌, ℕ, zero, suc, ◌+◌, ◌-◌, ◌%◌, ◌^◌, ◌<◌, ◌≤◌, ◌⊎◌, inl, inr, Bool, true, false, min, cond, eqb, ltb, leb, List}
+use Rattle.std.proofs.Common.{[], ◌∷◌, length, take, Some, None, IsTrue, refl, sym, ap, subst, ◌∙◌, arith, unwrap_or, eq-eqb, ne_eqb, le-leb}
+use Rattle.std.proofs.Common.{ltb-true, pow-suc, pow_pos}
 use Rattle.std.proofs.lemmas.Bool.{and_parts, cases_eq, cases_lt, cond-true, cond-false, cond_both, lt-leb}
 use Rattle.std.specs.List.{AllByRecursion}
 use Rattle.coll_kinds.specs.declared.signature.Signature.{Signature}
@@ -27,7 +29,8 @@ use Rattle.coll_trees.proofs.Depths.{depth_reaches}
 use Rattle.coll_trees.proofs.Spans.{span, Associates, associates, span_join}
 use Rattle.coll_plans.specs.PrefixDoubling.{third, shift, collect, join_both, doubling, exscan_family}
 use Rattle.coll_plans.proofs.LocalRounds.{AreLocal, local_column, is_local_column}
-use Rattle.coll_plans.proofs.PrefixDoublingRounds.{length-doubling, shift_at, join_at, doubling_columns, doubling_costs, range_heard, range_holds, came, shift_kept, step_kept, span_first}
+use Rattle.coll_plans.proofs.PrefixDoublingRounds.{length-doubling, shift_at, join_at, doubling_columns, doubling_costs, range_heard, range_holds}
+use Rattle.coll_plans.proofs.PrefixDoublingRounds.{came, shift_kept, step_kept, span_first}
 
 -- the second round of a step, by whether it is the first step and whether the member has received
 abbrev collect_by : Op → Datatype → ℕ → Bool → Action
@@ -77,7 +80,8 @@ join_local op ty b true false = (tt, (tt, tt))
 join_local op ty b false v = tt
 
 join_column : (op : Op) (ty : Datatype) (b n : ℕ) → b % width ty ≡ 0 → IsTrue (allowed op ty) → (s : ℕ) → IsColumn n (b + b + b) (join_both op ty b s)
-join_column op ty b n fit may s = local_column n (b + b + b) (join_both op ty b s) (λ r. join_local op ty b (leb s r) (eqb s 1)) (λ r low. join_round op ty b (leb s r) (eqb s 1) fit may)
+join_column op ty b n fit may s =
+    local_column n (b + b + b) (join_both op ty b s) (λ r. join_local op ty b (leb s r) (eqb s 1)) (λ r low. join_round op ty b (leb s r) (eqb s 1) fit may)
 
 join-free : (op : Op) (ty : Datatype) (b s : ℕ) → IsLocalColumn (join_both op ty b s)
 join-free op ty b s = is_local_column (join_both op ty b s) (λ r. join_local op ty b (leb s r) (eqb s 1))
@@ -124,7 +128,8 @@ module _ (sig : Signature) (n : ℕ) (kind : sig.kind ≡ Exscan) (top : n ≤ 6
   then_joined : (i r : ℕ) → i < depth n → actions_at (exscan_family sig n) (suc (i + i)) r ≡ join_both op sig.ty b (2 ^ i) r
   then_joined i r h = round-column columns (suc (i + i)) r ∙ join_at b n (join_both op sig.ty b) (depth n) i r h
 
-  joined : (i r : ℕ) → i < depth n → 2 ^ i ≤ r → actions_at (exscan_family sig n) (suc (i + i)) r ≡ collect op sig.ty b (2 ^ i) ∷ Combine op sig.ty (behind b) (front b) (front b) ∷ []
+  joined : (i r : ℕ) → i < depth n → 2 ^ i ≤ r
+      → actions_at (exscan_family sig n) (suc (i + i)) r ≡ collect op sig.ty b (2 ^ i) ∷ Combine op sig.ty (behind b) (front b) (front b) ∷ []
   joined i r low near = then_joined i r low ∙ join-some op sig.ty b (2 ^ i) r near
 
   rested : (i r : ℕ) → i < depth n → r < 2 ^ i → actions_at (exscan_family sig n) (suc (i + i)) r ≡ []
@@ -137,7 +142,8 @@ module _ (sig : Signature) (n : ℕ) (kind : sig.kind ≡ Exscan) (top : n ≤ 6
   takes r = sym (ap (λ k. given_by k sig.root n r b (row_len sig)) kind)
 
   gives : (r : ℕ) → (output r).len ≡ got_len sig n r
-  gives r = elim (eqb r 0) as (λ t. (cond t nothing (third b)).len ≡ cond t 0 b) [ true ↦ refl | false ↦ refl ] ∙ sym (ap (λ k. got_by k sig.root n r b (row_len sig)) kind)
+  gives r = elim (eqb r 0) as (λ t. (cond t nothing (third b)).len ≡ cond t 0 b) [ true ↦ refl | false ↦ refl ]
+      ∙ sym (ap (λ k. got_by k sig.root n r b (row_len sig)) kind)
 
   module _ (given : List (List ℕ)) (are : AreGiven sig n given) (bytes : (r : ℕ) → r < n → AreBytes (row_of given r)) where
     abbrev holding : ℕ → ℕ → Region → List ℕ
@@ -159,16 +165,20 @@ module _ (sig : Signature) (n : ℕ) (kind : sig.kind ≡ Exscan) (top : n ≤ 6
     begins r h = input_held n (exscan_family sig n) exscan_lawful (row_of given) laid r h
 
     -- what comes in step i is what the member that far below holds: the rows that end with its own
-    comes : (i r : ℕ) → i < depth n → r < n → 2 ^ i ≤ r → holding (suc (i + i)) r (behind b) ≡ rows_at (suc (r - 2 ^ i) - min (2 ^ i) (suc (r - 2 ^ i))) (min (2 ^ i) (suc (r - 2 ^ i)))
+    comes : (i r : ℕ) → i < depth n → r < n → 2 ^ i ≤ r
+        → holding (suc (i + i)) r (behind b) ≡ rows_at (suc (r - 2 ^ i) - min (2 ^ i) (suc (r - 2 ^ i))) (min (2 ^ i) (suc (r - 2 ^ i)))
     comes i r low h near =
-        came (exscan_family sig n) b n (depth n) moved exscan_lawful op sig.ty assoc (row_of given) laid rows (λ p k. omega arith) begins also_joined rested i r low h near
-        ∙ range_holds (exscan_family sig n) b n (depth n) moved exscan_lawful op sig.ty assoc (row_of given) laid rows (λ p k. omega arith) begins also_joined rested i (r - 2 ^ i) (omega arith) (omega arith)
+        came (exscan_family sig n) b n (depth n) moved exscan_lawful op sig.ty assoc (row_of given) laid rows
+        (λ p k. omega arith) begins also_joined rested i r low h near
+        ∙ range_holds (exscan_family sig n) b n (depth n) moved exscan_lawful op sig.ty assoc (row_of given) laid rows
+        (λ p k. omega arith) begins also_joined rested i (r - 2 ^ i) (omega arith) (omega arith)
 
     same : {k l m t : ℕ} → k ≡ l → m ≡ t → rows_at k m ≡ rows_at l t
     same e g = λ x. rows_at (e x) (g x)
 
     -- after the first step the third block holds the row below, and after i steps the 2 ^ i - 1 rows before the member's own
-    before_holds : (i r : ℕ) → suc i ≤ depth n → r < n → 0 < r → holding (suc i + suc i) r (third b) ≡ rows_at (r - min (2 ^ suc i - 1) r) (min (2 ^ suc i - 1) r)
+    before_holds : (i r : ℕ) → suc i ≤ depth n → r < n → 0 < r
+        → holding (suc i + suc i) r (third b) ≡ rows_at (r - min (2 ^ suc i - 1) r) (min (2 ^ suc i - 1) r)
     before_holds zero r low h pos =
         round_held n (exscan_family sig n) exscan_lawful (row_of given) laid 1 r (Copy (behind b) (third b)) (third b) h
         (subst (λ xs. Has xs (Copy (behind b) (third b))) (sym (joined 0 r (omega arith) (omega arith))) (inl refl)) refl
@@ -180,19 +190,27 @@ module _ (sig : Signature) (n : ℕ) (kind : sig.kind ≡ Exscan) (top : n ≤ 6
         go : 0 < 2 ^ i → holding (suc i + suc i) r (third b) ≡ rows_at (r - min (2 ^ suc i - 1) r) (min (2 ^ suc i - 1) r) → (r < 2 ^ suc i) ⊎ (2 ^ suc i ≤ r)
             → holding (suc (suc (suc i + suc i))) r (third b) ≡ rows_at (r - min (2 ^ suc (suc i) - 1) r) (min (2 ^ suc (suc i) - 1) r)
         go some so_far (inl x) =
-            step_kept (exscan_family sig n) b n (depth n) moved exscan_lawful op sig.ty assoc (row_of given) laid rows (λ p k. omega arith) begins also_joined rested
+            step_kept (exscan_family sig n) b n (depth n) moved exscan_lawful op sig.ty assoc (row_of given) laid rows
+            (λ p k. omega arith) begins also_joined rested
             (suc i) r (third b) (omega arith) h x (omega arith) (λ k y z v w. omega arith)
             ∙ (so_far ∙ same (omega (arith, pow-suc 2 (suc i))) (omega (arith, pow-suc 2 (suc i))))
         go some so_far (inr x) =
             let d : 2 ^ suc i ≢ 1 = omega (arith, pow-suc 2 i) in
-            round_held n (exscan_family sig n) exscan_lawful (row_of given) laid (suc (suc i + suc i)) r (Combine op sig.ty (behind b) (third b) (third b)) (third b) h
-            (subst (λ xs. Has xs (Combine op sig.ty (behind b) (third b) (third b))) (sym (joined (suc i) r (omega arith) x)) (inl (collect-later op sig.ty b (2 ^ suc i) d))) refl
+            round_held n (exscan_family sig n) exscan_lawful (row_of given) laid (suc (suc i + suc i)) r
+            (Combine op sig.ty (behind b) (third b) (third b)) (third b) h
+            (subst (λ xs. Has xs (Combine op sig.ty (behind b) (third b) (third b))) (sym (joined (suc i) r (omega arith) x))
+            (inl (collect-later op sig.ty b (2 ^ suc i) d))) refl
             ∙ (ap (λ l. combined op sig.ty l (holding (suc (suc i + suc i)) r (third b))) (comes (suc i) r (omega arith) h x)
             ∙ (ap (combined op sig.ty (rows_at (suc (r - 2 ^ suc i) - min (2 ^ suc i) (suc (r - 2 ^ suc i))) (min (2 ^ suc i) (suc (r - 2 ^ suc i)))))
-            (shift_kept (exscan_family sig n) b n (depth n) moved exscan_lawful op sig.ty assoc (row_of given) laid rows (λ p k. omega arith) begins also_joined rested
+            (shift_kept (exscan_family sig n) b n (depth n) moved exscan_lawful op sig.ty assoc (row_of given) laid rows
+            (λ p k. omega arith) begins also_joined rested
             (suc i) r (third b) (omega arith) h (omega arith) (λ k y z v w. omega arith)
-            ∙ (so_far ∙ same (let k : r - min (2 ^ suc i - 1) r ≡ suc (r - 2 ^ suc i) - min (2 ^ suc i) (suc (r - 2 ^ suc i)) + min (2 ^ suc i) (suc (r - 2 ^ suc i)) = omega arith in k) (let k : min (2 ^ suc i - 1) r ≡ 2 ^ suc i - 1 = omega arith in k)))
-            ∙ (span_join op sig.ty b n assoc (row_of given) rows (suc (r - 2 ^ suc i) - min (2 ^ suc i) (suc (r - 2 ^ suc i))) (min (2 ^ suc i) (suc (r - 2 ^ suc i))) (2 ^ suc i - 1) (min (2 ^ suc i) (suc (r - 2 ^ suc i)) + (2 ^ suc i - 1)) (omega arith) (omega (arith, pow-suc 2 i)) refl (omega arith)
+            ∙ (so_far ∙ same (let k : r - min (2 ^ suc i - 1) r
+            ≡ suc (r - 2 ^ suc i) - min (2 ^ suc i) (suc (r - 2 ^ suc i)) + min (2 ^ suc i) (suc (r - 2 ^ suc i)) = omega arith in k)
+            (let k : min (2 ^ suc i - 1) r ≡ 2 ^ suc i - 1 = omega arith in k)))
+            ∙ (span_join op sig.ty b n assoc (row_of given) rows (suc (r - 2 ^ suc i) - min (2 ^ suc i) (suc (r - 2 ^ suc i)))
+            (min (2 ^ suc i) (suc (r - 2 ^ suc i))) (2 ^ suc i - 1) (min (2 ^ suc i) (suc (r - 2 ^ suc i)) + (2 ^ suc i - 1))
+            (omega arith) (omega (arith, pow-suc 2 i)) refl (omega arith)
             ∙ same (omega (arith, pow-suc 2 (suc i))) (omega (arith, pow-suc 2 (suc i))))))
 
     -- in the end it holds all rows before the member's own
@@ -246,10 +264,14 @@ pub exscan_serves : (sig : Signature) (n : ℕ) → broken sig n ≡ None → si
 exscan_serves sig n h kind top = exscan_narrow sig n kind top (operation_allowed sig n (checked sig n h) (ap has_operation kind))
 
 -- the parts that the builder makes are the family's
-pub exscan_parts : (sig : Signature) (n r len : ℕ) (op : Op) (output : Region) (rounds : List (List Action)) → len ≡ block_len sig → sig.op ≡ Some op → output ≡ cond (eqb r 0) nothing (third len) → rounds ≡ rounds_of (doubling len n (join_both op sig.ty len) 0 (depth n)) r → ◌≡◌ {A = Parts} (record { size = len + len + len; input = front len; output = output; rounds = rounds }) (exscan_family sig n r)
+pub exscan_parts : (sig : Signature) (n r len : ℕ) (op : Op) (output : Region) (rounds : List (List Action))
+    → len ≡ block_len sig → sig.op ≡ Some op → output ≡ cond (eqb r 0) nothing (third len)
+    → rounds ≡ rounds_of (doubling len n (join_both op sig.ty len) 0 (depth n)) r
+    → ◌≡◌ {A = Parts} (record { size = len + len + len; input = front len; output = output; rounds = rounds }) (exscan_family sig n r)
 exscan_parts sig n r len op output rounds e o g s =
     let op_is : op ≡ unwrap_or sig.op Sum = sym (ap (λ x. unwrap_or x Sum) o) in
     let o2 : output ≡ cond (eqb r 0) nothing (third (block_len sig)) = g ∙ ap (λ l. cond (eqb r 0) nothing (third l)) e in
     let s2 : rounds ≡ rounds_of (doubling (block_len sig) n (join_both (unwrap_or sig.op Sum) sig.ty (block_len sig)) 0 (depth n)) r =
-    s ∙ (ap (λ l. rounds_of (doubling l n (join_both op sig.ty l) 0 (depth n)) r) e ∙ ap (λ x. rounds_of (doubling (block_len sig) n (join_both x sig.ty (block_len sig)) 0 (depth n)) r) op_is) in
+    s ∙ (ap (λ l. rounds_of (doubling l n (join_both op sig.ty l) 0 (depth n)) r) e
+    ∙ ap (λ x. rounds_of (doubling (block_len sig) n (join_both x sig.ty (block_len sig)) 0 (depth n)) r) op_is) in
     λ k. record { size = e k + e k + e k; input = front (e k); output = o2 k; rounds = s2 k }

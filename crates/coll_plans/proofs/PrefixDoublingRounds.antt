@@ -1,6 +1,8 @@
 -- prefix doubling: the rounds are lawful, and after i steps each member holds the combination of the 2 ^ i rows that end
 -- with its own, and has heard their members
-use Rattle.std.proofs.Common.{◌≡◌, ℕ, zero, suc, ◌+◌, ◌-◌, ◌^◌, ◌<◌, ◌≤◌, ◌⊎◌, inl, inr, Bool, true, false, min, cond, eqb, ltb, leb, List, [], ◌∷◌, length, take, Option, Some, None, refl, sym, ap, subst, ◌∙◌, arith, eq-eqb, ne_eqb, lt-ltb, le-leb, ltb-true, pow-suc, pow_pos, count_by}
+use Rattle.std.proofs.Common.{◌≡◌, ℕ, zero, suc, ◌+◌, ◌-◌, ◌^◌, ◌<◌, ◌≤◌, ◌⊎◌, inl, inr, Bool, true, false, min, cond, eqb, ltb, leb, List, [], ◌∷◌}
+use Rattle.std.proofs.Common.{length, take, Option, Some, None, refl, sym, ap, subst, ◌∙◌, arith, eq-eqb, ne_eqb, lt-ltb, le-leb, ltb-true, pow-suc}
+use Rattle.std.proofs.Common.{pow_pos, count_by}
 use Rattle.std.proofs.lemmas.Bool.{cases_eq, cases_lt, lt-leb}
 use Rattle.std.proofs.lemmas.List.{length-take-le}
 use Rattle.std.specs.List.{AllByRecursion}
@@ -12,7 +14,8 @@ use Rattle.coll_ops.specs.Laws.{IsRow}
 use Rattle.coll_sched.specs.declared.region.Region.{Region}
 use Rattle.coll_sched.specs.declared.action.Action.{Action}
 use Rattle.coll_sched.specs.declared.action.Action.TheVariants.{Send, Combine, Recv}
-use Rattle.coll_sched.specs.Common.{Inside, Apart, read_of, front, behind, IsAmong, AllApart, writes, IsRound, Family, actions_at, in_link, out_link, len_of, lock_step, Heard, IsLawful, is_send, is_recv}
+use Rattle.coll_sched.specs.Common.{Inside, Apart, read_of, front, behind, IsAmong, AllApart, writes, IsRound, Family, actions_at, in_link, out_link}
+use Rattle.coll_sched.specs.Common.{len_of, lock_step, Heard, IsLawful, is_send, is_recv}
 use Rattle.coll_sched.proofs.Rounds.{GivenFits}
 use Rattle.coll_sched.proofs.Builders.{Has, receives_has, round_held, round_kept, message_is}
 use Rattle.coll_trees.specs.Columns.{Column}
@@ -30,7 +33,13 @@ shift_by b s r t u = cond t (Send (r + s) (front b) ∷ receipt_by b s r u) (rec
 shift_round : (size b s r : ℕ) (t u : Bool) → b + b ≤ size → IsRound size (shift_by b s r t u)
 shift_round size b s r true true h = record {
   fits = (omega arith, (omega arith, tt));
-  follows = ((record { in_order = omega arith; other_peer = tt; read_later = tt; read_before = (((λ k x y z w. omega arith), tt), tt); both_written = tt }, tt), (tt, tt));
+  follows = (
+    (
+      record { in_order = omega arith; other_peer = tt; read_later = tt; read_before = (((λ k x y z w. omega arith), tt), tt); both_written = tt },
+      tt,
+    ),
+    (tt, tt),
+  );
 }
 shift_round size b s r true false h = record { fits = (omega arith, tt); follows = (tt, tt) }
 shift_round size b s r false true h = record { fits = (omega arith, tt); follows = (tt, tt) }
@@ -63,7 +72,8 @@ out_link-shift b s r p false false = refl
 -- r receives of the member that sends to it
 shift_aligned : (b n s r p : ℕ) → r < n → p < n → len_of (in_link p (shift b n s r)) ≡ len_of (out_link r (shift b n s p))
 shift_aligned b n s r p hr hp =
-    ap len_of (in_link-shift b s r p (ltb (r + s) n) (leb s r)) ∙ (go (cases_eq (p + s) r) (cases_lt r s) ∙ sym (ap len_of (out_link-shift b s p r (ltb (p + s) n) (leb s p))))
+    ap len_of (in_link-shift b s r p (ltb (r + s) n) (leb s r))
+    ∙ (go (cases_eq (p + s) r) (cases_lt r s) ∙ sym (ap len_of (out_link-shift b s p r (ltb (p + s) n) (leb s p))))
   where
     into : Bool → Bool → Option Region
     into u v = cond u (cond v (Some (behind b)) None) None
@@ -112,7 +122,8 @@ shift_sends : (b n s r : ℕ) → r + s < n → Has (shift b n s r) (Send (r + s
 shift_sends b n s r h = subst (λ t. Has (shift_by b s r t (leb s r)) (Send (r + s) (front b))) (sym (lt-ltb (r + s) n h)) (sends_by b s r (leb s r))
 
 shift_receives : (b n s r : ℕ) → s ≤ r → Has (shift b n s r) (Recv (r - s) (behind b))
-shift_receives b n s r h = subst (λ u. Has (shift_by b s r (ltb (r + s) n) u) (Recv (r - s) (behind b))) (sym (le-leb s r h)) (receives_by b s r (ltb (r + s) n))
+shift_receives b n s r h =
+    subst (λ u. Has (shift_by b s r (ltb (r + s) n) u) (Recv (r - s) (behind b))) (sym (le-leb s r h)) (receives_by b s r (ltb (r + s) n))
 
 -- a shift writes nothing but the second block
 shift_keeps : (b s r : ℕ) (g : Region) (t u : Bool) → Apart (behind b) g → AllByRecursion (λ a. AllApart (writes a) (g ∷ [])) (shift_by b s r t u)
@@ -147,7 +158,8 @@ module _ (b n : ℕ) (joins : ℕ → Column) where
   pub join_at : (c i r : ℕ) → i < c → column_of (doubling b n joins 0 c) (suc (i + i)) r ≡ joins (2 ^ i) r
   join_at c i r h = ap (λ (column : Column). column r) (doubling-joins 0 c i h ∙ ap (λ e. joins (2 ^ e)) (let z : 0 + i ≡ i = omega arith in z))
 
-  pub doubling_columns : (size : ℕ) → b + b ≤ size → ((s : ℕ) → IsColumn n size (joins s)) → (k c : ℕ) → AllByRecursion (IsColumn n size) (doubling b n joins k c)
+  pub doubling_columns : (size : ℕ) → b + b ≤ size → ((s : ℕ) → IsColumn n size (joins s)) → (k c : ℕ)
+      → AllByRecursion (IsColumn n size) (doubling b n joins k c)
   doubling_columns size h each k zero = tt
   doubling_columns size h each k (suc c) = (shift_column n size b (2 ^ k) h, (each (2 ^ k), doubling_columns size h each (suc k) c))
 
@@ -185,19 +197,22 @@ module _ (f : Family) (b n d : ℕ) (moved : (i r : ℕ) → i < d → actions_a
       (joined : (i r : ℕ) → i < d → 2 ^ i ≤ r → Has (actions_at f (suc (i + i)) r) (Combine op ty (behind b) (front b) (front b)))
       (rested : (i r : ℕ) → i < d → r < 2 ^ i → actions_at f (suc (i + i)) r ≡ []) where
     -- the shift brings the block of the member below
-    pub came : (i r : ℕ) → i < d → r < n → 2 ^ i ≤ r → read_of (lock_step f given (suc (i + i)) r) (behind b) ≡ read_of (lock_step f given (i + i) (r - 2 ^ i)) (front b)
+    pub came : (i r : ℕ) → i < d → r < n → 2 ^ i ≤ r
+        → read_of (lock_step f given (suc (i + i)) r) (behind b) ≡ read_of (lock_step f given (i + i) (r - 2 ^ i)) (front b)
     came i r h low near =
         round_held n f lawful given laid (i + i) r (Recv (r - 2 ^ i) (behind b)) (behind b) low (receives i r h near) refl
         ∙ message_is n f lawful given laid (i + i) r (r - 2 ^ i) (front b) (omega arith) (sends i r (r - 2 ^ i) h (omega arith) low)
 
     -- and leaves the others
-    pub shift_kept : (i r : ℕ) (g : Region) → i < d → r < n → Inside (f r).size g → Apart (behind b) g → read_of (lock_step f given (suc (i + i)) r) g ≡ read_of (lock_step f given (i + i) r) g
+    pub shift_kept : (i r : ℕ) (g : Region) → i < d → r < n → Inside (f r).size g → Apart (behind b) g
+        → read_of (lock_step f given (suc (i + i)) r) g ≡ read_of (lock_step f given (i + i) r) g
     shift_kept i r g h low inside apart =
         round_kept n f lawful given laid (i + i) r g low inside
         (subst (AllByRecursion (λ a. AllApart (writes a) (g ∷ []))) (sym (moved i r h)) (shift_keeps b (2 ^ i) r g (ltb (r + 2 ^ i) n) (leb (2 ^ i) r) apart))
 
     -- a member with nobody that far below keeps all through the step
-    pub step_kept : (i r : ℕ) (g : Region) → i < d → r < n → r < 2 ^ i → Inside (f r).size g → Apart (behind b) g → read_of (lock_step f given (suc (suc (i + i))) r) g ≡ read_of (lock_step f given (i + i) r) g
+    pub step_kept : (i r : ℕ) (g : Region) → i < d → r < n → r < 2 ^ i → Inside (f r).size g → Apart (behind b) g
+        → read_of (lock_step f given (suc (suc (i + i))) r) g ≡ read_of (lock_step f given (i + i) r) g
     step_kept i r g h low near inside apart =
         round_kept n f lawful given laid (suc (i + i)) r g low inside
         (subst (AllByRecursion (λ a. AllApart (writes a) (g ∷ []))) (sym (rested i r h near)) tt)
@@ -207,7 +222,8 @@ module _ (f : Family) (b n d : ℕ) (moved : (i r : ℕ) → i < d → actions_a
     front_in r low = let z : b + b ≤ (f r).size = room r low in omega arith
 
     -- after i steps
-    pub range_holds : (i r : ℕ) → i ≤ d → r < n → read_of (lock_step f given (i + i) r) (front b) ≡ span op ty given (suc r - min (2 ^ i) (suc r)) (min (2 ^ i) (suc r))
+    pub range_holds : (i r : ℕ) → i ≤ d → r < n
+        → read_of (lock_step f given (i + i) r) (front b) ≡ span op ty given (suc r - min (2 ^ i) (suc r)) (min (2 ^ i) (suc r))
     range_holds zero r h low =
         start r low
         ∙ (ap given (let k : r ≡ suc r - 1 = omega arith in k) ∙ ap (λ m. span op ty given (suc r - m) m) (let k : 1 ≡ min (2 ^ 0) (suc r) = omega arith in k))
@@ -218,20 +234,27 @@ module _ (f : Family) (b n d : ℕ) (moved : (i r : ℕ) → i < d → actions_a
         same : {k l m t : ℕ} → k ≡ l → m ≡ t → span op ty given k m ≡ span op ty given l t
         same e g = λ x. span op ty given (e x) (g x)
 
-        go : 0 < 2 ^ i → ((q : ℕ) → q < n → read_of (lock_step f given (i + i) q) (front b) ≡ span op ty given (suc q - min (2 ^ i) (suc q)) (min (2 ^ i) (suc q)))
-            → (r < 2 ^ i) ⊎ (2 ^ i ≤ r) → read_of (lock_step f given (suc (suc (i + i))) r) (front b) ≡ span op ty given (suc r - min (2 ^ suc i) (suc r)) (min (2 ^ suc i) (suc r))
+        go : 0 < 2 ^ i → ((q : ℕ) → q < n → read_of (lock_step f given (i + i) q) (front b)
+            ≡ span op ty given (suc q - min (2 ^ i) (suc q)) (min (2 ^ i) (suc q)))
+            → (r < 2 ^ i) ⊎ (2 ^ i ≤ r)
+            → read_of (lock_step f given (suc (suc (i + i))) r) (front b) ≡ span op ty given (suc r - min (2 ^ suc i) (suc r)) (min (2 ^ suc i) (suc r))
         go pos before (inl x) =
             step_kept i r (front b) (omega arith) low x (front_in r low) (λ k y z v w. omega arith)
-            ∙ (before r low ∙ ap (λ m. span op ty given (suc r - m) m) (let k : min (2 ^ i) (suc r) ≡ min (2 ^ suc i) (suc r) = omega (arith, pow-suc 2 i) in k))
+            ∙ (before r low ∙ ap (λ m. span op ty given (suc r - m) m)
+            (let k : min (2 ^ i) (suc r) ≡ min (2 ^ suc i) (suc r) = omega (arith, pow-suc 2 i) in k))
         go pos before (inr x) =
             let q : ℕ = r - 2 ^ i in
             let m : ℕ = min (2 ^ i) (suc (r - 2 ^ i)) in
             round_held n f lawful given laid (suc (i + i)) r (Combine op ty (behind b) (front b) (front b)) (front b) low (joined i r (omega arith) x) refl
-            ∙ (ap (λ l. combined op ty l (read_of (lock_step f given (suc (i + i)) r) (front b))) (came i r (omega arith) low x ∙ before (r - 2 ^ i) (omega arith))
+            ∙ (ap (λ l. combined op ty l (read_of (lock_step f given (suc (i + i)) r) (front b)))
+            (came i r (omega arith) low x ∙ before (r - 2 ^ i) (omega arith))
             ∙ (ap (combined op ty (span op ty given (suc (r - 2 ^ i) - min (2 ^ i) (suc (r - 2 ^ i))) (min (2 ^ i) (suc (r - 2 ^ i)))))
             (shift_kept i r (front b) (omega arith) low (front_in r low) (λ k y z v w. omega arith)
-            ∙ (before r low ∙ same (let k : suc r - min (2 ^ i) (suc r) ≡ suc (r - 2 ^ i) - min (2 ^ i) (suc (r - 2 ^ i)) + min (2 ^ i) (suc (r - 2 ^ i)) = omega arith in k) (let k : min (2 ^ i) (suc r) ≡ 2 ^ i = omega arith in k)))
-            ∙ (span_join op ty b n assoc given rows (suc (r - 2 ^ i) - min (2 ^ i) (suc (r - 2 ^ i))) (min (2 ^ i) (suc (r - 2 ^ i))) (2 ^ i) (min (2 ^ i) (suc (r - 2 ^ i)) + 2 ^ i) (omega arith) pos refl (omega arith)
+            ∙ (before r low ∙ same (let k : suc r - min (2 ^ i) (suc r)
+            ≡ suc (r - 2 ^ i) - min (2 ^ i) (suc (r - 2 ^ i)) + min (2 ^ i) (suc (r - 2 ^ i)) = omega arith in k)
+            (let k : min (2 ^ i) (suc r) ≡ 2 ^ i = omega arith in k)))
+            ∙ (span_join op ty b n assoc given rows (suc (r - 2 ^ i) - min (2 ^ i) (suc (r - 2 ^ i)))
+            (min (2 ^ i) (suc (r - 2 ^ i))) (2 ^ i) (min (2 ^ i) (suc (r - 2 ^ i)) + 2 ^ i) (omega arith) pos refl (omega arith)
             ∙ same (omega (arith, pow-suc 2 i)) (omega (arith, pow-suc 2 i)))))
 
 -- the span of the first rows is the combination of their list
@@ -239,7 +262,8 @@ span_agrees : (op : Op) (ty : Datatype) (xs ys : ℕ → List ℕ) (k c : ℕ) �
 span_agrees op ty xs ys k zero h = refl
 span_agrees op ty xs ys k (suc zero) h = h k (omega arith)
 span_agrees op ty xs ys k (suc (suc c)) h =
-    ap (λ l. combined op ty l (span op ty xs (suc k) (suc c))) (h k (omega arith)) ∙ ap (combined op ty (ys k)) (span_agrees op ty xs ys (suc k) (suc c) (λ i x. h i (omega arith)))
+    ap (λ l. combined op ty l (span op ty xs (suc k) (suc c))) (h k (omega arith))
+    ∙ ap (combined op ty (ys k)) (span_agrees op ty xs ys (suc k) (suc c) (λ i x. h i (omega arith)))
 
 row_of-take : (c : ℕ) (given : List (List ℕ)) (i : ℕ) → i < c → row_of (take c given) i ≡ row_of given i
 row_of-take zero given i h = absurd (omega arith)

@@ -1,5 +1,6 @@
 -- the family of scan, by prefix doubling
-use Rattle.std.proofs.Common.{◌≡◌, ℕ, suc, ◌+◌, ◌-◌, ◌%◌, ◌^◌, ◌<◌, ◌≤◌, Bool, true, false, inl, min, cond, ltb, leb, List, [], ◌∷◌, length, take, Some, None, IsTrue, refl, sym, ap, subst, ◌∙◌, arith, unwrap_or, le-leb, leb-true}
+use Rattle.std.proofs.Common.{◌≡◌, ℕ, suc, ◌+◌, ◌-◌, ◌%◌, ◌^◌, ◌<◌, ◌≤◌, Bool, true, false, inl, min, cond, ltb, leb, List, [], ◌∷◌, length, take}
+use Rattle.std.proofs.Common.{Some, None, IsTrue, refl, sym, ap, subst, ◌∙◌, arith, unwrap_or, le-leb, leb-true}
 use Rattle.std.proofs.lemmas.Bool.{and_parts, lt-leb}
 use Rattle.std.specs.List.{AllByRecursion}
 use Rattle.coll_kinds.specs.declared.signature.Signature.{Signature}
@@ -88,11 +89,14 @@ module _ (sig : Signature) (n : ℕ) (kind : sig.kind ≡ Scan) (top : n ≤ 64)
     rows : (p : ℕ) → p < n → IsRow sig.ty (row_of given p) × (length (row_of given p) ≡ b)
     rows p h = (IsRow-block sig (row_of given p) (laid p h) (bytes p h), laid p h)
 
-    holds : (r : ℕ) → r < n → read_of (lock_step (scan_family sig n) (row_of given) (depth n + depth n) r) (front b) ≡ span op sig.ty (row_of given) (suc r - min (2 ^ depth n) (suc r)) (min (2 ^ depth n) (suc r))
+    holds : (r : ℕ) → r < n
+        → read_of (lock_step (scan_family sig n) (row_of given) (depth n + depth n) r) (front b)
+        ≡ span op sig.ty (row_of given) (suc r - min (2 ^ depth n) (suc r)) (min (2 ^ depth n) (suc r))
     holds r h =
         range_holds (scan_family sig n) b n (depth n) moved scan_lawful op sig.ty (associates op sig.ty may) (row_of given) laid rows (λ p k. omega arith)
         (λ p k. input_held n (scan_family sig n) scan_lawful (row_of given) laid p k)
-        (λ i p low near. subst (λ xs. Has xs (Combine op sig.ty (behind b) (front b) (front b))) (sym (then_joined i p low ∙ join-some op sig.ty b (2 ^ i) p near)) (inl refl))
+        (λ i p low near. subst (λ xs. Has xs (Combine op sig.ty (behind b) (front b) (front b)))
+        (sym (then_joined i p low ∙ join-some op sig.ty b (2 ^ i) p near)) (inl refl))
         (λ i p low near. then_joined i p low ∙ join-none op sig.ty b (2 ^ i) p near)
         (depth n) r (omega arith) h
 
@@ -136,9 +140,12 @@ pub scan_serves : (sig : Signature) (n : ℕ) → broken sig n ≡ None → sig.
 scan_serves sig n h kind top = scan_narrow sig n kind top (operation_allowed sig n (checked sig n h) (ap has_operation kind))
 
 -- the parts that the builder makes are the family's
-pub scan_parts : (sig : Signature) (n r len : ℕ) (op : Op) (rounds : List (List Action)) → len ≡ block_len sig → sig.op ≡ Some op → rounds ≡ rounds_of (doubling len n (join op sig.ty len) 0 (depth n)) r → ◌≡◌ {A = Parts} (record { size = len + len; input = front len; output = front len; rounds = rounds }) (scan_family sig n r)
+pub scan_parts : (sig : Signature) (n r len : ℕ) (op : Op) (rounds : List (List Action)) → len ≡ block_len sig → sig.op ≡ Some op
+    → rounds ≡ rounds_of (doubling len n (join op sig.ty len) 0 (depth n)) r
+    → ◌≡◌ {A = Parts} (record { size = len + len; input = front len; output = front len; rounds = rounds }) (scan_family sig n r)
 scan_parts sig n r len op rounds e o s =
     let op_is : op ≡ unwrap_or sig.op Sum = sym (ap (λ x. unwrap_or x Sum) o) in
     let s2 : rounds ≡ rounds_of (doubling (block_len sig) n (join (unwrap_or sig.op Sum) sig.ty (block_len sig)) 0 (depth n)) r =
-    s ∙ (ap (λ l. rounds_of (doubling l n (join op sig.ty l) 0 (depth n)) r) e ∙ ap (λ x. rounds_of (doubling (block_len sig) n (join x sig.ty (block_len sig)) 0 (depth n)) r) op_is) in
+    s ∙ (ap (λ l. rounds_of (doubling l n (join op sig.ty l) 0 (depth n)) r) e
+    ∙ ap (λ x. rounds_of (doubling (block_len sig) n (join x sig.ty (block_len sig)) 0 (depth n)) r) op_is) in
     λ k. record { size = e k + e k; input = front (e k); output = front (e k); rounds = s2 k }

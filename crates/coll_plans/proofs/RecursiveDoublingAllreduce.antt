@@ -1,5 +1,6 @@
 -- the family of allreduce, by recursive doubling
-use Rattle.std.proofs.Common.{◌≡◌, ℕ, suc, ◌+◌, ◌-◌, ◌^◌, ◌<◌, ◌≤◌, true, eqb, ltb, List, [], ◌∷◌, length, Some, None, IsTrue, sym, ap, subst, ◌∙◌, arith, unwrap_or, eqb-true, ltb-true, length-append}
+use Rattle.std.proofs.Common.{◌≡◌, ℕ, suc, ◌+◌, ◌-◌, ◌^◌, ◌<◌, ◌≤◌, true, eqb, ltb, List, [], ◌∷◌, length, Some, None, IsTrue, sym, ap, subst, ◌∙◌}
+use Rattle.std.proofs.Common.{arith, unwrap_or, eqb-true, ltb-true, length-append}
 use Rattle.std.proofs.lemmas.Bool.{and_parts, cond_both}
 use Rattle.std.specs.List.{AllByRecursion}
 use Rattle.coll_kinds.specs.declared.signature.Signature.{Signature}
@@ -53,7 +54,11 @@ module _ (sig : Signature) (n : ℕ) (kind : sig.kind ≡ Allreduce) (pos : 0 < 
   allreduce_length : (r : ℕ) → length (allreduce_family sig n r).rounds ≡ suc (suc (suc (d + d)))
   allreduce_length r =
       length-rounds columns r
-      ∙ omega (arith, length-append {A = Column} (hypercube_rounds op sig.ty b (extra n) 0 d) (tell b (extra n) ∷ []), length-hypercube_rounds op sig.ty b (extra n) 0 d)
+      ∙ omega (
+        arith,
+        length-append {A = Column} (hypercube_rounds op sig.ty b (extra n) 0 d) (tell b (extra n) ∷ []),
+        length-hypercube_rounds op sig.ty b (extra n) 0 d,
+      )
 
   takes : (r : ℕ) → b ≡ given_len sig n r
   takes r = sym (ap (λ k. given_by k sig.root n r b (row_len sig)) kind)
@@ -68,7 +73,8 @@ module _ (sig : Signature) (n : ℕ) (kind : sig.kind ≡ Allreduce) (pos : 0 < 
     allreduce_value : (r : ℕ) → r < n → result_at (allreduce_family sig n) (row_of given) r ≡ value sig given r
     allreduce_value r h =
         ap (λ j. read_of (lock_step (allreduce_family sig n) (row_of given) j r) (front b)) (allreduce_length r)
-        ∙ (all_hold (allreduce_family sig n) op sig.ty b n (extra n) d few_extra (extra_whole n pos) is_at allreduce_lawful (associates op sig.ty may) (row_of given) laid rows (λ p k. omega arith)
+        ∙ (all_hold (allreduce_family sig n) op sig.ty b n (extra n) d few_extra (extra_whole n pos) is_at allreduce_lawful
+        (associates op sig.ty may) (row_of given) laid rows (λ p k. omega arith)
         (λ p k. input_held n (allreduce_family sig n) allreduce_lawful (row_of given) laid p k) r h
         ∙ (ap (span op sig.ty (row_of given) 0) (sym are.each)
         ∙ (span_all op sig.ty given
@@ -87,7 +93,8 @@ module _ (sig : Signature) (n : ℕ) (kind : sig.kind ≡ Allreduce) (pos : 0 < 
       (λ e. few_exchanges n (b + b) (λ r. front b) (λ r. front b) columns (d + 2) (exchanging_costs op sig.ty b (extra n) d))
     where
       even : n ≡ 2 ^ dimension n → Costs columns (dimension n)
-      even e = subst (λ k. Costs (recursive_doubling op sig.ty b k (dimension n)) (dimension n)) (let z : 0 ≡ n - 2 ^ dimension n = omega arith in z) (even_costs op sig.ty b (dimension n))
+      even e = subst (λ k. Costs (recursive_doubling op sig.ty b k (dimension n)) (dimension n))
+          (let z : 0 ≡ n - 2 ^ dimension n = omega arith in z) (even_costs op sig.ty b (dimension n))
 
   allreduce_narrow : IsNarrowFor sig n (allreduce_family sig n) (most_trades n)
   allreduce_narrow = record {
@@ -103,14 +110,18 @@ module _ (sig : Signature) (n : ℕ) (kind : sig.kind ≡ Allreduce) (pos : 0 < 
   }
 
 -- the family of allreduce serves each checked allreduce
-pub allreduce_serves : (sig : Signature) (n : ℕ) → broken sig n ≡ None → sig.kind ≡ Allreduce → 0 < n → n ≤ 64 → IsNarrowFor sig n (allreduce_family sig n) (most_trades n)
+pub allreduce_serves : (sig : Signature) (n : ℕ) → broken sig n ≡ None → sig.kind ≡ Allreduce → 0 < n → n ≤ 64
+    → IsNarrowFor sig n (allreduce_family sig n) (most_trades n)
 allreduce_serves sig n h kind pos top = allreduce_narrow sig n kind pos top (operation_allowed sig n (checked sig n h) (ap has_operation kind))
 
 -- the parts that the builder makes are the family's
-pub allreduce_parts : (sig : Signature) (n r len e d : ℕ) (op : Op) (rounds : List (List Action)) → len ≡ block_len sig → sig.op ≡ Some op → e ≡ extra n → d ≡ dimension n → rounds ≡ rounds_of (recursive_doubling op sig.ty len e d) r → ◌≡◌ {A = Parts} (record { size = len + len; input = front len; output = front len; rounds = rounds }) (allreduce_family sig n r)
+pub allreduce_parts : (sig : Signature) (n r len e d : ℕ) (op : Op) (rounds : List (List Action)) → len ≡ block_len sig
+    → sig.op ≡ Some op → e ≡ extra n → d ≡ dimension n → rounds ≡ rounds_of (recursive_doubling op sig.ty len e d) r
+    → ◌≡◌ {A = Parts} (record { size = len + len; input = front len; output = front len; rounds = rounds }) (allreduce_family sig n r)
 allreduce_parts sig n r len e d op rounds l o x y s =
     let op_is : op ≡ unwrap_or sig.op Sum = sym (ap (λ z. unwrap_or z Sum) o) in
     let s2 : rounds ≡ rounds_of (recursive_doubling (unwrap_or sig.op Sum) sig.ty (block_len sig) (extra n) (dimension n)) r =
     s ∙ (ap (λ z. rounds_of (recursive_doubling op sig.ty z e d) r) l ∙ (ap (λ z. rounds_of (recursive_doubling z sig.ty (block_len sig) e d) r) op_is
-    ∙ (ap (λ z. rounds_of (recursive_doubling (unwrap_or sig.op Sum) sig.ty (block_len sig) z d) r) x ∙ ap (λ z. rounds_of (recursive_doubling (unwrap_or sig.op Sum) sig.ty (block_len sig) (extra n) z) r) y))) in
+    ∙ (ap (λ z. rounds_of (recursive_doubling (unwrap_or sig.op Sum) sig.ty (block_len sig) z d) r) x
+    ∙ ap (λ z. rounds_of (recursive_doubling (unwrap_or sig.op Sum) sig.ty (block_len sig) (extra n) z) r) y))) in
     λ k. record { size = l k + l k; input = front (l k); output = front (l k); rounds = s2 k }

@@ -1,5 +1,6 @@
 -- corners of a hypercube: which members they stand for, and which exchange with one another
-use Rattle.std.proofs.Common.{◌≡◌, ℕ, zero, suc, ◌+◌, ◌-◌, ◌*◌, ◌/◌, ◌%◌, ◌^◌, ◌<◌, ◌≤◌, ◌⊎◌, inl, inr, cond, eqb, ltb, sym, ap, subst, ◌∙◌, arith, eq-eqb, ne_eqb, lt-ltb, le-ltb, ltb-true, ltb-false, pow-suc, pow_pos, mul-le-mul_right}
+use Rattle.std.proofs.Common.{◌≡◌, ℕ, zero, suc, ◌+◌, ◌-◌, ◌*◌, ◌/◌, ◌%◌, ◌^◌, ◌<◌, ◌≤◌, ◌⊎◌, inl, inr, cond, eqb, ltb, sym, ap, subst, ◌∙◌, arith}
+use Rattle.std.proofs.Common.{eq-eqb, ne_eqb, lt-ltb, le-ltb, ltb-true, ltb-false, pow-suc, pow_pos, mul-le-mul_right}
 use Rattle.std.proofs.lemmas.Bool.{cases_eq, cases_lt, cond-true, cond-false, cond_both}
 use Rattle.std.proofs.lemmas.Nat.{mod-mul-add, div-add-mod', pow-add}
 use Rattle.coll_plans.specs.declared.recursive_doubling_fold.FoldPart.{FoldPart}
@@ -164,12 +165,14 @@ side_high m s x h = mod-mul-add m (s + s) (s + x) (omega arith)
 pub across_low : (m s x : ℕ) → x < s → across (m * (s + s) + x) s ≡ m * (s + s) + (s + x)
 across_low m s x h =
     let k : (m * (s + s) + x) % (s + s) ≡ x = side_low m s x h in
-    cond-true (ltb ((m * (s + s) + x) % (s + s)) s) (m * (s + s) + x + s) (m * (s + s) + x - s) (lt-ltb ((m * (s + s) + x) % (s + s)) s (omega arith)) ∙ omega arith
+    cond-true (ltb ((m * (s + s) + x) % (s + s)) s) (m * (s + s) + x + s) (m * (s + s) + x - s) (lt-ltb ((m * (s + s) + x) % (s + s)) s (omega arith))
+    ∙ omega arith
 
 pub across_high : (m s x : ℕ) → x < s → across (m * (s + s) + (s + x)) s ≡ m * (s + s) + x
 across_high m s x h =
     let k : (m * (s + s) + (s + x)) % (s + s) ≡ s + x = side_high m s x h in
-    cond-false (ltb ((m * (s + s) + (s + x)) % (s + s)) s) (m * (s + s) + (s + x) + s) (m * (s + s) + (s + x) - s) (le-ltb ((m * (s + s) + (s + x)) % (s + s)) s (omega arith)) ∙ omega arith
+    cond-false (ltb ((m * (s + s) + (s + x)) % (s + s)) s) (m * (s + s) + (s + x) + s) (m * (s + s) + (s + x) - s)
+    (le-ltb ((m * (s + s) + (s + x)) % (s + s)) s (omega arith)) ∙ omega arith
 
 -- in which half a corner is
 pub data Side (q s : ℕ) : Type 0 where
@@ -184,7 +187,9 @@ side q s h = go (cases_lt (q % (s + s)) s)
 
     go : (q % (s + s) < s) ⊎ (s ≤ q % (s + s)) → Side q s
     go (inl k) = lower_half (q / (s + s)) (q % (s + s)) k whole
-    go (inr k) = upper_half (q / (s + s)) (q % (s + s) - s) (omega arith) (ap (λ y. q / (s + s) * (s + s) + y) (let z : s + (q % (s + s) - s) ≡ q % (s + s) = omega arith in z) ∙ whole)
+    go (inr k) =
+        upper_half (q / (s + s)) (q % (s + s) - s) (omega arith)
+        (ap (λ y. q / (s + s) * (s + s) + y) (let z : s + (q % (s + s) - s) ≡ q % (s + s) = omega arith in z) ∙ whole)
 
 pub across_back : (q s : ℕ) → 0 < s → across (across q s) s ≡ q
 across_back q s h = go (side q s h)
@@ -212,7 +217,8 @@ across_in i d q low h = go (side q (2 ^ i) (pow_pos i))
     go : Side q (2 ^ i) → across q (2 ^ i) < 2 ^ d
     go (lower_half m x k e) =
         let a : across q (2 ^ i) ≡ m * (2 ^ i + 2 ^ i) + (2 ^ i + x) = ap (λ y. across y (2 ^ i)) (sym e) ∙ across_low m (2 ^ i) x k in
-        let b : m * (2 ^ i + 2 ^ i) + (2 ^ i + 2 ^ i) ≤ 2 ^ (d - suc i) * (2 ^ i + 2 ^ i) = block_in m (2 ^ (d - suc i)) (2 ^ i + 2 ^ i) x (omega (arith, split)) in
+        let b : m * (2 ^ i + 2 ^ i) + (2 ^ i + 2 ^ i) ≤ 2 ^ (d - suc i) * (2 ^ i + 2 ^ i) =
+        block_in m (2 ^ (d - suc i)) (2 ^ i + 2 ^ i) x (omega (arith, split)) in
         omega (arith, split)
     go (upper_half m x k e) =
         let a : across q (2 ^ i) ≡ m * (2 ^ i + 2 ^ i) + x = ap (λ y. across y (2 ^ i)) (sym e) ∙ across_high m (2 ^ i) x k in

@@ -1,5 +1,6 @@
 -- recursive doubling: the rounds of an allreduce are lawful, and what they cost
-use Rattle.std.proofs.Common.{◌≡◌, ℕ, zero, suc, ◌+◌, ◌-◌, ◌%◌, ◌^◌, ◌<◌, ◌≤◌, ◌⊎◌, inl, inr, Bool, true, false, cond, eqb, ltb, List, [], ◌∷◌, ◌++◌, length, Some, None, IsTrue, refl, sym, ap, subst, ◌∙◌, arith, eq-eqb, ne_eqb, pow_pos, count_by}
+use Rattle.std.proofs.Common.{◌≡◌, ℕ, zero, suc, ◌+◌, ◌-◌, ◌%◌, ◌^◌, ◌<◌, ◌≤◌, ◌⊎◌, inl, inr, Bool, true, false, cond, eqb, ltb, List, [], ◌∷◌, ◌++◌}
+use Rattle.std.proofs.Common.{length, Some, None, IsTrue, refl, sym, ap, subst, ◌∙◌, arith, eq-eqb, ne_eqb, pow_pos, count_by}
 use Rattle.std.proofs.lemmas.Bool.{cases_eq}
 use Rattle.std.specs.List.{AllByRecursion, list_any}
 use Rattle.coll_kinds.specs.declared.operation.Op.{Op}
@@ -9,12 +10,15 @@ use Rattle.coll_sched.specs.declared.action.Action.{Action}
 use Rattle.coll_sched.specs.declared.action.Action.TheVariants.{Combine}
 use Rattle.coll_sched.specs.Common.{front, behind, IsAmong, IsRound, has_peer, in_link, out_link, len_of, is_send, is_recv}
 use Rattle.coll_trees.specs.Columns.{Column}
-use Rattle.coll_trees.proofs.Columns.{IsColumn, IsLocalColumn, column_of, column-left, column-right, all_append, Costs, free, local_round, exchange, costs_append, costs_more}
+use Rattle.coll_trees.proofs.Columns.{IsColumn, IsLocalColumn, column_of, column-left, column-right, all_append, Costs, free, local_round, exchange}
+use Rattle.coll_trees.proofs.Columns.{costs_append, costs_more}
 use Rattle.coll_plans.specs.declared.recursive_doubling_fold.FoldPart.{FoldPart}
 use Rattle.coll_plans.specs.declared.recursive_doubling_fold.FoldPart.TheVariants.{Lower, Upper, Alone}
 use Rattle.coll_plans.specs.RecursiveDoublingHypercube.{fold_part, corner, mate}
-use Rattle.coll_plans.specs.RecursiveDoubling.{fold_gives, fold_joins, swap, exchanges, joins_by, tells, give, pair_up, exchange_at, exchange_joins, tell, hypercube_rounds, recursive_doubling}
-use Rattle.coll_plans.proofs.RecursiveDoublingHypercube.{FoldPartIs, is_lower, is_upper, is_alone, fold_part_is, fold_part_alone, Leads, mate_back, mate_leads, mate_in}
+use Rattle.coll_plans.specs.RecursiveDoubling.{fold_gives, fold_joins, swap, exchanges, joins_by, tells, give, pair_up, exchange_at, exchange_joins}
+use Rattle.coll_plans.specs.RecursiveDoubling.{tell, hypercube_rounds, recursive_doubling}
+use Rattle.coll_plans.proofs.RecursiveDoublingHypercube.{FoldPartIs, is_lower, is_upper, is_alone, fold_part_is, fold_part_alone, Leads, mate_back}
+use Rattle.coll_plans.proofs.RecursiveDoublingHypercube.{mate_leads, mate_in}
 use Rattle.coll_plans.proofs.LocalRounds.{AreLocal, local_column, is_local_column}
 
 -- each round of one member by itself
@@ -31,7 +35,13 @@ tells_round b r Alone = record { fits = tt; follows = tt }
 swap_round : (b p : ℕ) → IsRound (b + b) (swap b p)
 swap_round b p = record {
   fits = (omega arith, (omega arith, tt));
-  follows = ((record { in_order = omega arith; other_peer = tt; read_later = tt; read_before = (((λ k x y z w. omega arith), tt), tt); both_written = tt }, tt), (tt, tt));
+  follows = (
+    (
+      record { in_order = omega arith; other_peer = tt; read_later = tt; read_before = (((λ k x y z w. omega arith), tt), tt); both_written = tt },
+      tt,
+    ),
+    (tt, tt),
+  );
 }
 
 exchanges_round : (b p : ℕ) (o : FoldPart) → IsRound (b + b) (exchanges b p o)
@@ -67,10 +77,12 @@ module _ (b n e : ℕ) (room : e + e ≤ n) where
   tells_among r Alone low (is_alone h k) = tt
 
   -- a link is there where the peers fit, on both sides
-  pub links : (m p w r l : ℕ) (g h : ℕ) → (m ≡ p → w ≡ r) → (w ≡ r → m ≡ p) → len_of (cond (eqb m p) (Some (record { at = g; len = l })) None) ≡ len_of (cond (eqb w r) (Some (record { at = h; len = l })) None)
+  pub links : (m p w r l : ℕ) (g h : ℕ) → (m ≡ p → w ≡ r) → (w ≡ r → m ≡ p)
+      → len_of (cond (eqb m p) (Some (record { at = g; len = l })) None) ≡ len_of (cond (eqb w r) (Some (record { at = h; len = l })) None)
   links m p w r l g h to from = go (cases_eq m p)
     where
-      go : (m ≡ p) ⊎ (m ≡ p → ⊥) → len_of (cond (eqb m p) (Some (record { at = g; len = l })) None) ≡ len_of (cond (eqb w r) (Some (record { at = h; len = l })) None)
+      go : (m ≡ p) ⊎ (m ≡ p → ⊥)
+          → len_of (cond (eqb m p) (Some (record { at = g; len = l })) None) ≡ len_of (cond (eqb w r) (Some (record { at = h; len = l })) None)
       go (inl k) =
           ap (λ t. len_of (cond t (Some (record { at = g; len = l })) None)) (eq-eqb m p k)
           ∙ sym (ap (λ t. len_of (cond t (Some (record { at = h; len = l })) None)) (eq-eqb w r (to k)))
@@ -82,7 +94,8 @@ module _ (b n e : ℕ) (room : e + e ≤ n) where
   pub none_linked : (m p l g : ℕ) → (m ≡ p → ⊥) → len_of (cond (eqb m p) (Some (record { at = g; len = l })) None) ≡ None
   none_linked m p l g k = ap (λ t. len_of (cond t (Some (record { at = g; len = l })) None)) (ne_eqb m p k)
 
-  fold_gives_meet : (r p : ℕ) (o u : FoldPart) → FoldPartIs e r (corner e r) o → FoldPartIs e p (corner e p) u → len_of (in_link p (fold_gives b r o)) ≡ len_of (out_link r (fold_gives b p u))
+  fold_gives_meet : (r p : ℕ) (o u : FoldPart) → FoldPartIs e r (corner e r) o → FoldPartIs e p (corner e p) u
+      → len_of (in_link p (fold_gives b r o)) ≡ len_of (out_link r (fold_gives b p u))
   fold_gives_meet r p Lower Lower (is_lower h k) (is_lower x y) = none_linked (r + 1) p b b (λ z. omega arith)
   fold_gives_meet r p Lower Upper (is_lower h k) (is_upper x y) = links (r + 1) p (p - 1) r b b 0 (λ z. omega arith) (λ z. omega arith)
   fold_gives_meet r p Lower Alone (is_lower h k) (is_alone x y) = none_linked (r + 1) p b b (λ z. omega arith)
@@ -93,7 +106,8 @@ module _ (b n e : ℕ) (room : e + e ≤ n) where
   fold_gives_meet r p Alone Upper (is_alone h k) (is_upper x y) = sym (none_linked (p - 1) r b 0 (λ z. omega arith))
   fold_gives_meet r p Alone Alone (is_alone h k) (is_alone x y) = refl
 
-  tells_meet : (r p : ℕ) (o u : FoldPart) → FoldPartIs e r (corner e r) o → FoldPartIs e p (corner e p) u → len_of (in_link p (tells b r o)) ≡ len_of (out_link r (tells b p u))
+  tells_meet : (r p : ℕ) (o u : FoldPart) → FoldPartIs e r (corner e r) o → FoldPartIs e p (corner e p) u
+      → len_of (in_link p (tells b r o)) ≡ len_of (out_link r (tells b p u))
   tells_meet r p Lower Lower (is_lower h k) (is_lower x y) = sym (none_linked (p + 1) r b 0 (λ z. omega arith))
   tells_meet r p Lower Upper (is_lower h k) (is_upper x y) = refl
   tells_meet r p Lower Alone (is_lower h k) (is_alone x y) = refl
@@ -123,7 +137,8 @@ module _ (b n e : ℕ) (room : e + e ≤ n) where
   }
 
   -- an exchange is mutual
-  exchanges_meet : (s r p : ℕ) (o u : FoldPart) → 0 < s → fold_part e r ≡ o → fold_part e p ≡ u → len_of (in_link p (exchanges b (mate e s r) o)) ≡ len_of (out_link r (exchanges b (mate e s p) u))
+  exchanges_meet : (s r p : ℕ) (o u : FoldPart) → 0 < s → fold_part e r ≡ o → fold_part e p ≡ u
+      → len_of (in_link p (exchanges b (mate e s r) o)) ≡ len_of (out_link r (exchanges b (mate e s p) u))
   exchanges_meet s r p o u pos x y = go o u x y
     where
       both : Leads (fold_part e r) → Leads (fold_part e p) → len_of (in_link p (swap b (mate e s r))) ≡ len_of (out_link r (swap b (mate e s p)))
@@ -136,7 +151,8 @@ module _ (b n e : ℕ) (room : e + e ≤ n) where
       leads : {v : FoldPart} (q : ℕ) → fold_part e q ≡ v → Leads v → Leads (fold_part e q)
       leads q h k = subst Leads (sym h) k
 
-      go : (o u : FoldPart) → fold_part e r ≡ o → fold_part e p ≡ u → len_of (in_link p (exchanges b (mate e s r) o)) ≡ len_of (out_link r (exchanges b (mate e s p) u))
+      go : (o u : FoldPart) → fold_part e r ≡ o → fold_part e p ≡ u
+          → len_of (in_link p (exchanges b (mate e s r) o)) ≡ len_of (out_link r (exchanges b (mate e s p) u))
       go Lower Lower h k = both (leads r h tt) (leads p k tt)
       go Lower Upper h k = none_linked (mate e s r) p b b (never r p k)
       go Lower Alone h k = both (leads r h tt) (leads p k tt)
@@ -210,7 +226,11 @@ module _ (op : Op) (ty : Datatype) (b : ℕ) where
       hypercube_columns k zero h = tt
       hypercube_columns k (suc c) h = (
         exchange_column b n e (omega arith) k d (omega arith) room whole,
-        (local_column n (b + b) (exchange_joins op ty b e (2 ^ k)) (λ r. joins_local (corner e r) (2 ^ k) (fold_part e r)) (λ r low. joins_round (corner e r) (2 ^ k) (fold_part e r)), hypercube_columns (suc k) c (omega arith)),
+        (
+          local_column n (b + b) (exchange_joins op ty b e (2 ^ k)) (λ r. joins_local (corner e r) (2 ^ k) (fold_part e r))
+              (λ r low. joins_round (corner e r) (2 ^ k) (fold_part e r)),
+          hypercube_columns (suc k) c (omega arith),
+        ),
       )
 
       pub exchanging_columns : AllByRecursion (IsColumn n (b + b)) (recursive_doubling op ty b e d)
@@ -218,7 +238,8 @@ module _ (op : Op) (ty : Datatype) (b : ℕ) where
         give_column b n e (omega arith),
         (
           local_column n (b + b) (pair_up op ty b e) (λ r. pairs_local (fold_part e r)) (λ r low. pairs_round (fold_part e r)),
-          all_append (IsColumn n (b + b)) (hypercube_rounds op ty b e 0 d) (tell b e ∷ []) (hypercube_columns 0 d (omega arith)) (tell_column b n e (omega arith), tt),
+          all_append (IsColumn n (b + b)) (hypercube_rounds op ty b e 0 d) (tell b e ∷ []) (hypercube_columns 0 d (omega arith))
+              (tell_column b n e (omega arith), tt),
         ),
       )
 
@@ -234,12 +255,15 @@ module _ (op : Op) (ty : Datatype) (b : ℕ) where
   no_tells r = ap (λ o. list_any has_peer (tells b r o)) (fold_part_alone 0 r (omega arith))
 
   pub even_costs : (d : ℕ) → Costs (recursive_doubling op ty b 0 d) d
-  even_costs d = local_round no_gives (local_round (pair_up-free 0) (costs_append (hypercube_rounds op ty b 0 0 d) (tell b 0 ∷ []) d 0 d (omega arith) (hypercube_costs 0 0 d) (local_round no_tells free)))
+  even_costs d =
+      local_round no_gives (local_round (pair_up-free 0)
+      (costs_append (hypercube_rounds op ty b 0 0 d) (tell b 0 ∷ []) d 0 d (omega arith) (hypercube_costs 0 0 d) (local_round no_tells free)))
 
   pub exchanging_costs : (e d : ℕ) → Costs (recursive_doubling op ty b e d) (d + 2)
   exchanging_costs e d =
       costs_more (let z : suc (d + 1) ≤ d + 2 = omega arith in z)
-      (exchange (local_round (pair_up-free e) (costs_append (hypercube_rounds op ty b e 0 d) (tell b e ∷ []) d 1 (d + 1) refl (hypercube_costs e 0 d) (exchange free))))
+      (exchange (local_round (pair_up-free e)
+      (costs_append (hypercube_rounds op ty b e 0 d) (tell b e ∷ []) d 1 (d + 1) refl (hypercube_costs e 0 d) (exchange free))))
 
   -- which round is which
   pub length-hypercube_rounds : (e k c : ℕ) → length (hypercube_rounds op ty b e k c) ≡ c + c
@@ -266,7 +290,8 @@ module _ (op : Op) (ty : Datatype) (b : ℕ) where
       ap (λ (c : Column). c r) (column-left (hypercube_rounds op ty b e 0 d) (tell b e ∷ []) (i + i) (omega arith)
       ∙ (hypercube_rounds-exchanges e 0 d i h ∙ ap (λ j. exchange_at b e (2 ^ j)) (let z : 0 + i ≡ i = omega arith in z)))
 
-  pub recursive_doubling-join : (e d i r : ℕ) → i < d → column_of (recursive_doubling op ty b e d) (suc (suc (suc (i + i)))) r ≡ exchange_joins op ty b e (2 ^ i) r
+  pub recursive_doubling-join : (e d i r : ℕ) → i < d
+      → column_of (recursive_doubling op ty b e d) (suc (suc (suc (i + i)))) r ≡ exchange_joins op ty b e (2 ^ i) r
   recursive_doubling-join e d i r h =
       let l : length (hypercube_rounds op ty b e 0 d) ≡ d + d = length-hypercube_rounds e 0 d in
       ap (λ (c : Column). c r) (column-left (hypercube_rounds op ty b e 0 d) (tell b e ∷ []) (suc (i + i)) (omega arith)
@@ -274,5 +299,7 @@ module _ (op : Op) (ty : Datatype) (b : ℕ) where
 
   pub recursive_doubling-tell : (e d r : ℕ) → column_of (recursive_doubling op ty b e d) (suc (suc (d + d))) r ≡ tell b e r
   recursive_doubling-tell e d r =
-      ap (λ (c : Column). c r) (ap (column_of (hypercube_rounds op ty b e 0 d ++ (tell b e ∷ []))) (let z : d + d ≡ length (hypercube_rounds op ty b e 0 d) + 0 = omega (arith, length-hypercube_rounds e 0 d) in z)
+      ap (λ (c : Column). c r)
+      (ap (column_of (hypercube_rounds op ty b e 0 d ++ (tell b e ∷ [])))
+      (let z : d + d ≡ length (hypercube_rounds op ty b e 0 d) + 0 = omega (arith, length-hypercube_rounds e 0 d) in z)
       ∙ column-right (hypercube_rounds op ty b e 0 d) (tell b e ∷ []) 0)

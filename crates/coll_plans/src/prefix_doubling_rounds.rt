@@ -30,7 +30,8 @@ impl PrefixDoubling {
     /// The rounds of member `r`, two for each step.
     pub fn rounds(self, alloc: Global, r: u8) -> Result<Vec<Round>, Refusal>
         requires { r < self.n }
-        ensures ok { IfOk result (λ rounds. rounds.items ≡ rounds_of (doubling self.len self.n (joins self.exclusive self.op self.ty self.len) 0 (depth self.n)) r) }
+        ensures ok { IfOk result
+            (λ rounds. rounds.items ≡ rounds_of (doubling self.len self.n (joins self.exclusive self.op self.ty self.len) 0 (depth self.n)) r) }
         ensures refusal { IsOkUnless result Refusal.NoMemory }
     {
         let steps = depth_of(self.n);

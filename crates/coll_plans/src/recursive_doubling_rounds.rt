@@ -47,7 +47,8 @@ impl RecursiveDoubling {
     // Appends the rounds of the exchanges, two for each dimension.
     fn push_exchanges(self, alloc: Global, r: u8, rounds: &mut Vec<Round>) -> Result<(), Refusal>
         requires { r < 64 }
-        ensures ok { OnOk result (rounds.new.items ≡ rounds.old.items ++ rounds_of (hypercube_rounds self.op self.ty self.len self.cube.extra 0 self.cube.dimension) r) }
+        ensures ok { OnOk result
+            (rounds.new.items ≡ rounds.old.items ++ rounds_of (hypercube_rounds self.op self.ty self.len self.cube.extra 0 self.cube.dimension) r) }
         ensures refusal { IsOkUnless result Refusal.NoMemory }
     {
         let part = FoldPart::new(self.cube.extra, r);

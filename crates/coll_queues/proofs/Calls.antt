@@ -62,7 +62,8 @@ module _ (comms : List Lists) (places : ℕ) (v : Postings) (e : ◌≡◌ {A = 
   pub known : (rank : ℕ) → member_of v comm rank ≡ Some member → member_refusal v comm rank ≡ None
   known rank number_is = member_known v comm rank member (low_comm v comm member member_in) number_is
 
-module _ (comms : List Lists) (places : ℕ) (v : Postings) (e : ◌≡◌ {A = Postings} (record { comms = comms; places = places }) v) (comm rank member : ℕ) (l : Lists)
+module _ (comms : List Lists) (places : ℕ) (v : Postings) (e : ◌≡◌ {A = Postings} (record { comms = comms; places = places }) v)
+    (comm rank member : ℕ) (l : Lists)
     (known : member_refusal v comm rank ≡ None) (number_is : member_of v comm rank ≡ Some member) (is : l ≡ get_or comms comm l) where
   pub low : comm < length comms
   low = subst (λ (q : Postings). comm < length q.comms) (sym e) (known_comm v comm rank known)
@@ -101,12 +102,16 @@ module _ (comms : List Lists) (places : ℕ) (v : Postings) (e : ◌≡◌ {A = 
     -- one more signature
     module _ (sig : Signature) where
       pub posts_offered : posts_in new ≡ put (posts_in l) member (posts_in l member ++ sig ∷ []) →
-          posts (record { comms = set comms comm new; places = places }) ≡ put2 (posts v) comm (number_of v comm rank) (posts v comm (number_of v comm rank) ++ sig ∷ [])
+          posts (record { comms = set comms comm new; places = places })
+          ≡ put2 (posts v) comm (number_of v comm rank) (posts v comm (number_of v comm rank) ++ sig ∷ [])
       posts_offered pushed =
-          posts_changed ∙ ap (put (posts v) comm) (pushed ∙ (λ z. let m : ℕ = unwrap_or (sym number_is z) 0 in put (posts_in (sym here z)) m (posts_in (sym here z) m ++ sig ∷ [])))
+          posts_changed ∙ ap (put (posts v) comm)
+          (pushed ∙ (λ z. let m : ℕ = unwrap_or (sym number_is z) 0 in put (posts_in (sym here z)) m (posts_in (sym here z) m ++ sig ∷ [])))
 
       pub signed_offered : signed_in new ≡ put (signed_in l) (length (posts_in l member)) (Some sig) →
           signed (record { comms = set comms comm new; places = places }) ≡ put2 (signed v) comm (place_of v comm rank) (Some sig)
       signed_offered pushed =
           signed_set comms comm new low places ∙ ap (λ q. put (signed q) comm (signed_in new)) e
-          ∙ ap (put (signed v) comm) (pushed ∙ (λ z. put (signed_in (sym here z)) (place_is z) (Some sig)) ∙ ap (λ f. put f (place_of v comm rank) (Some sig)) (sym (signed_at v comm)))
+          ∙ ap (put (signed v) comm)
+          (pushed ∙ (λ z. put (signed_in (sym here z)) (place_is z) (Some sig))
+          ∙ ap (λ f. put f (place_of v comm rank) (Some sig)) (sym (signed_at v comm)))

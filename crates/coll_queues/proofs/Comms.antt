@@ -1,5 +1,6 @@
 -- The posting lists of all communicators, and a change of one of them.
-use Rattle.std.proofs.Common.{◌≡◌, ℕ, ◌<◌, ◌≤◌, List, [], ◌∷◌, ◌++◌, Bool, true, false, cond, eqb, length, map, get_or, set, refl, sym, ap, subst, ◌∙◌, Option, Some, None, arith, inl, inr}
+use Rattle.std.proofs.Common.{◌≡◌, ℕ, ◌<◌, ◌≤◌, List, [], ◌∷◌, ◌++◌, Bool, true, false, cond, eqb, length, map, get_or, set, refl, sym, ap, subst}
+use Rattle.std.proofs.Common.{◌∙◌, Option, Some, None, arith, inl, inr}
 use Rattle.std.specs.Prelude.{slice_get, unwrap_or, option_map}
 use Rattle.std.proofs.lemmas.Bool.{cases_eq}
 use Rattle.std.proofs.lemmas.List.{get_or_default, get_or-set_same, get_or-set_other}
@@ -51,20 +52,25 @@ module _ (comms : List Lists) (comm : ℕ) (l : Lists) (low : comm < length comm
     | inr d ↦ subst IsAgreed (sym (put_other (lists_at comms) comm l c d)) (all c)
   ])
 
-  pub posts_set : (places : ℕ) → posts (record { comms = set comms comm l; places = places }) ≡ put (posts (record { comms = comms; places = places })) comm (posts_in l)
+  pub posts_set : (places : ℕ)
+      → posts (record { comms = set comms comm l; places = places }) ≡ put (posts (record { comms = comms; places = places })) comm (posts_in l)
   posts_set places = λ z c. (ap posts_in (lists_set c) ∙ map_put posts_in (lists_at comms) comm l c) z
 
-  pub signed_set : (places : ℕ) → signed (record { comms = set comms comm l; places = places }) ≡ put (signed (record { comms = comms; places = places })) comm (signed_in l)
-  signed_set places = λ z c. (signed_at (record { comms = set comms comm l; places = places }) c ∙ ap signed_in (lists_set c) ∙ map_put signed_in (lists_at comms) comm l c
+  pub signed_set : (places : ℕ)
+      → signed (record { comms = set comms comm l; places = places }) ≡ put (signed (record { comms = comms; places = places })) comm (signed_in l)
+  signed_set places =
+      λ z c. (signed_at (record { comms = set comms comm l; places = places }) c ∙ ap signed_in (lists_set c) ∙ map_put signed_in (lists_at comms) comm l c
       ∙ ap (λ f. put f comm (signed_in l) c) (λ y k. sym (signed_at (record { comms = comms; places = places }) k) y)) z
 
-  pub groups_set : (old : Lists) → old ≡ get_or comms comm old → l.group ≡ old.group → map (λ (m : Lists). m.group) (set comms comm l) ≡ map (λ (m : Lists). m.group) comms
+  pub groups_set : (old : Lists) → old ≡ get_or comms comm old → l.group ≡ old.group
+      → map (λ (m : Lists). m.group) (set comms comm l) ≡ map (λ (m : Lists). m.group) comms
   groups_set old is same = map-set_same (λ (m : Lists). m.group) comms comm l old (same ∙ ap (λ (m : Lists). m.group) is)
 
 -- another room leaves what the lists say
 pub agreed_roomed : (l m : Lists) → m.group ≡ l.group → m.lists ≡ l.lists → IsAgreed l → IsAgreed m
 agreed_roomed l m g s a = subst (λ group. IsAgreed (record { group = group; lists = m.lists; room = m.room })) (sym g)
-    (subst (λ lists. IsAgreed (record { group = l.group; lists = lists; room = m.room })) (sym s) (record { few = a.few; outside = a.outside; signed = a.signed }))
+    (subst (λ lists. IsAgreed (record { group = l.group; lists = lists; room = m.room })) (sym s)
+    (record { few = a.few; outside = a.outside; signed = a.signed }))
 
 -- ---- one more communicator
 
@@ -75,7 +81,9 @@ pub agreed_none : (comms : List Lists) → comms ≡ [] → AreAgreed comms
 agreed_none comms e = subst AreAgreed (sym e) (λ comm. agreed_nothing)
 
 lists_push : (comms : List Lists) (l : Lists) (comm : ℕ) → lists_at (comms ++ l ∷ []) comm ≡ put (lists_at comms) (length comms) l comm
-lists_push comms l comm = ap (λ (o : Option Lists). unwrap_or o no_lists) (slice_get-push comms l comm) ∙ map_put (λ (o : Option Lists). unwrap_or o no_lists) (slice_get comms) (length comms) (Some l) comm
+lists_push comms l comm =
+    ap (λ (o : Option Lists). unwrap_or o no_lists) (slice_get-push comms l comm)
+    ∙ map_put (λ (o : Option Lists). unwrap_or o no_lists) (slice_get comms) (length comms) (Some l) comm
 
 pub agreed_push : (comms : List Lists) (l : Lists) → AreAgreed comms → IsAgreed l → AreAgreed (comms ++ l ∷ [])
 agreed_push comms l all one c = subst IsAgreed (sym (lists_push comms l c)) (elim (cases_eq c (length comms)) [

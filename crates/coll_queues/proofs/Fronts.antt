@@ -1,9 +1,11 @@
 -- The posting lists of one communicator, as fronts of one list of signatures.
-use Rattle.std.proofs.Common.{◌≡◌, replicate, ℕ, zero, suc, ◌+◌, ◌<◌, ◌≤◌, ◌⊎◌, inl, inr, ltb, true, false, List, [], ◌∷◌, ◌++◌, length, map, take, get_or, set, refl, sym, ap, subst, ◌∙◌, Option, Some, None, take_all, arith}
+use Rattle.std.proofs.Common.{◌≡◌, replicate, ℕ, zero, suc, ◌+◌, ◌<◌, ◌≤◌, ◌⊎◌, inl, inr, ltb, true, false, List, [], ◌∷◌, ◌++◌, length, map, take}
+use Rattle.std.proofs.Common.{get_or, set, refl, sym, ap, subst, ◌∙◌, Option, Some, None, take_all, arith}
 use Rattle.std.specs.Prelude.{slice_get, unwrap_or, option_map}
 use Rattle.std.specs.List.{position, position_or_len}
 use Rattle.std.proofs.lemmas.Bool.{cases_lt, cases_eq, lt-ltb, le-ltb}
-use Rattle.std.proofs.lemmas.List.{get_or-set_same, get_or-set_other, length-append, length-set, length-replicate, length-take-le, take_more, take-append-le, get_or_append_left, get_or_past}
+use Rattle.std.proofs.lemmas.List.{get_or-set_same, get_or-set_other, length-append, length-set, length-replicate, length-take-le, take_more}
+use Rattle.std.proofs.lemmas.List.{take-append-le, get_or_append_left, get_or_past}
 use Rattle.std.proofs.lemmas.List.Sums.{position_or_len_is}
 use Rattle.std.proofs.lemmas.Option.{slice_get-get_or, slice_get_past, slice_get_cases, slice_get_within, get_or_from_slice_get, none-some}
 use Rattle.std.specs.Option.{ForSome, IsSome}
@@ -34,7 +36,8 @@ take_nil : {X : Type 0} (n : ℕ) → take n (let xs : List X = [] in xs) ≡ []
 take_nil zero = refl
 take_nil (suc n) = refl
 
-posts_front : (sigs : List Signature) (lengths : List ℕ) (member : ℕ) → unwrap_or (slice_get (map (λ n. take n sigs) lengths) member) [] ≡ take (get_or lengths member 0) sigs
+posts_front : (sigs : List Signature) (lengths : List ℕ) (member : ℕ)
+    → unwrap_or (slice_get (map (λ n. take n sigs) lengths) member) [] ≡ take (get_or lengths member 0) sigs
 posts_front sigs [] member = refl
 posts_front sigs (n ∷ lengths) zero = refl
 posts_front sigs (n ∷ lengths) (suc member) = posts_front sigs lengths member
@@ -42,7 +45,8 @@ posts_front sigs (n ∷ lengths) (suc member) = posts_front sigs lengths member
 -- ---- the first list that has a place
 
 -- it stands k members after the first
-first_there-at : (f : ℕ → List Signature) (place from n k : ℕ) (s : Signature) → k < n → slice_get (f (from + k)) place ≡ Some s → ((j : ℕ) → j < k → slice_get (f (from + j)) place ≡ None)
+first_there-at : (f : ℕ → List Signature) (place from n k : ℕ) (s : Signature) → k < n → slice_get (f (from + k)) place ≡ Some s
+    → ((j : ℕ) → j < k → slice_get (f (from + j)) place ≡ None)
     → first_there f place from n ≡ Some (from + k, s)
 first_there-at f place from zero k s lt at before = absurd (omega (arith, lt))
 first_there-at f place from (suc n) zero s lt at before =
@@ -97,19 +101,24 @@ module _ (group : List ℕ) (sigs : List Signature) (lengths : List ℕ) (room :
       let first = first_over lengths place owner.0 owner.1 in
       let low : first.index < length group = omega (arith, first.within, s.all) in
       let found : position_or_len (λ n. ltb place n) lengths ≡ first.index =
-      position_or_len_is (λ n. ltb place n) lengths first.index 0 (omega (arith, first.within)) (λ j before. le-ltb place _ (first.before j before)) (λ _. lt-ltb place _ first.has) in
+      position_or_len_is (λ n. ltb place n) lengths first.index 0 (omega (arith, first.within))
+      (λ j before. le-ltb place _ (first.before j before)) (λ _. lt-ltb place _ first.has) in
       record {
         member = first.index;
         in_group = low;
         beyond = rw (found, lt-ltb first.index (length lengths) first.within) refl;
         first = first_there-at (posts_in (lists_of group sigs lengths room)) place 0 (length group) first.index sig low
-            (ap (λ xs. slice_get xs place) (posts_front sigs lengths (0 + first.index) ∙ ap (λ m. take (get_or lengths m 0) sigs) (omega arith)) ∙ slice_get-take _ sigs place first.has ∙ at)
-            (λ j before. ap (λ xs. slice_get xs place) (posts_front sigs lengths (0 + j) ∙ ap (λ m. take (get_or lengths m 0) sigs) (omega arith)) ∙ slice_get-take_past _ sigs place (first.before j before))
+            (ap (λ xs. slice_get xs place) (posts_front sigs lengths (0 + first.index) ∙ ap (λ m. take (get_or lengths m 0) sigs) (omega arith))
+            ∙ slice_get-take _ sigs place first.has ∙ at)
+            (λ j before. ap (λ xs. slice_get xs place) (posts_front sigs lengths (0 + j) ∙ ap (λ m. take (get_or lengths m 0) sigs) (omega arith))
+            ∙ slice_get-take_past _ sigs place (first.before j before))
             ∙ ap (λ m. Some (m, sig)) (omega arith);
       }
 
   pub none_stands : (place : ℕ) → length sigs ≤ place → first_there (posts_in (lists_of group sigs lengths room)) place 0 (length group) ≡ None
-  none_stands place past = first_there-none _ place 0 (length group) (λ j. ap (λ xs. slice_get xs place) (posts_front sigs lengths j) ∙ slice_get-take_past _ sigs place (omega (arith, s.within j, past)))
+  none_stands place past =
+      first_there-none _ place 0 (length group)
+      (λ j. ap (λ xs. slice_get xs place) (posts_front sigs lengths j) ∙ slice_get-take_past _ sigs place (omega (arith, s.within j, past)))
 
   pub signed_front : (place : ℕ) → signed_in (lists_of group sigs lengths room) place ≡ slice_get sigs place
   signed_front place = elim ((slice_get_cases sigs place).1) [
@@ -120,7 +129,8 @@ module _ (group : List ℕ) (sigs : List Signature) (lengths : List ℕ) (room :
   pub stood : (place : ℕ) → IsSome (signed_in (lists_of group sigs lengths room) place) → (sig : Signature) × Stands place sig
   stood place some = elim ((slice_get_cases sigs place).1) [
     | inl at ↦ (at.0, stands place at.0 at.2)
-    | inr past ↦ let none : signed_in (lists_of group sigs lengths room) place ≡ None = signed_front place ∙ past.1 in let h : false ≡ true = subst (λ (o : Option Signature). IsSome o) none some in absurd cc
+    | inr past ↦ let none : signed_in (lists_of group sigs lengths room) place ≡ None =
+        signed_front place ∙ past.1 in let h : false ≡ true = subst (λ (o : Option Signature). IsSome o) none some in absurd cc
   ]
 
   -- a member's next place
@@ -128,7 +138,8 @@ module _ (group : List ℕ) (sigs : List Signature) (lengths : List ℕ) (room :
   next_front member = ap length (posts_front sigs lengths member) ∙ length-take-le (get_or lengths member 0) sigs (s.within member)
 
   -- what is asked of a posting at a place that has a signature already
-  pub stands_already : (member place : ℕ) (sig : Signature) → ForSome (signed_in (lists_of group sigs lengths room) (length (posts_in (lists_of group sigs lengths room) member))) (λ known. known ≡ sig)
+  pub stands_already : (member place : ℕ) (sig : Signature)
+      → ForSome (signed_in (lists_of group sigs lengths room) (length (posts_in (lists_of group sigs lengths room) member))) (λ known. known ≡ sig)
       → place ≡ get_or lengths member 0 → place < length sigs → slice_get sigs place ≡ Some sig
   stands_already member place sig agrees e low =
       let read : slice_get sigs place ≡ Some (get_or sigs place sig) = slice_get-get_or sigs place sig low in
@@ -162,11 +173,14 @@ pub record Extends (sigs more : List Signature) (place : ℕ) (sig : Signature) 
 
 pub slice_get-push : {X : Type 0} (xs : List X) (x : X) (p : ℕ) → slice_get (xs ++ x ∷ []) p ≡ put (slice_get xs) (length xs) (Some x) p
 slice_get-push xs x p = elim (cases_lt p (length xs)) [
-  | inl low ↦ slice_get-get_or (xs ++ x ∷ []) p x (omega (arith, length-append xs (x ∷ []), low)) ∙ ap Some (get_or_append_left xs (x ∷ []) x p low) ∙ sym (slice_get-get_or xs p x low)
+  | inl low ↦ slice_get-get_or (xs ++ x ∷ []) p x (omega (arith, length-append xs (x ∷ []), low))
+      ∙ ap Some (get_or_append_left xs (x ∷ []) x p low) ∙ sym (slice_get-get_or xs p x low)
       ∙ sym (put_other (slice_get xs) (length xs) (Some x) p (λ e. absurd (omega (arith, e, low))))
   | inr past ↦ elim (cases_eq p (length xs)) [
-    | inl e ↦ slice_get-get_or (xs ++ x ∷ []) p x (omega (arith, length-append xs (x ∷ []), e)) ∙ ap (λ i. Some (get_or (xs ++ x ∷ []) i x)) e ∙ ap Some (get_or-append_seam xs x [] x) ∙ sym (put_at (slice_get xs) (length xs) (Some x) p e)
-    | inr d ↦ slice_get_past (xs ++ x ∷ []) p (omega (arith, length-append xs (x ∷ []), d, past)) ∙ sym (slice_get_past xs p past) ∙ sym (put_other (slice_get xs) (length xs) (Some x) p d)
+    | inl e ↦ slice_get-get_or (xs ++ x ∷ []) p x (omega (arith, length-append xs (x ∷ []), e))
+        ∙ ap (λ i. Some (get_or (xs ++ x ∷ []) i x)) e ∙ ap Some (get_or-append_seam xs x [] x) ∙ sym (put_at (slice_get xs) (length xs) (Some x) p e)
+    | inr d ↦ slice_get_past (xs ++ x ∷ []) p (omega (arith, length-append xs (x ∷ []), d, past))
+        ∙ sym (slice_get_past xs p past) ∙ sym (put_other (slice_get xs) (length xs) (Some x) p d)
   ]
 ]
 
@@ -200,7 +214,8 @@ extends_same sigs place sig stands =
       ];
     }
 
-module _ (group : List ℕ) (sigs more : List Signature) (lengths longer : List ℕ) (member place : ℕ) (sig : Signature) (s : AreFronts group sigs lengths) (low : member < length group)
+module _ (group : List ℕ) (sigs more : List Signature) (lengths longer : List ℕ) (member place : ℕ) (sig : Signature)
+    (s : AreFronts group sigs lengths) (low : member < length group)
     (place_is : place ≡ get_or lengths member 0) (longer_is : longer ≡ set lengths member (place + 1)) (x : Extends sigs more place sig) where
   own : get_or longer member 0 ≡ place + 1
   own = ap (λ ns. get_or ns member 0) longer_is ∙ get_or-set_same lengths member (place + 1) 0 (omega (arith, low, s.all))
@@ -228,7 +243,9 @@ module _ (group : List ℕ) (sigs more : List Signature) (lengths longer : List 
         | inr d ↦ (m, omega (arith, other m d, has))
       ]
 
-  pub posts_pushed : (room bigger : ℕ) → posts_in (lists_of group more longer bigger) ≡ put (posts_in (lists_of group sigs lengths room)) member (posts_in (lists_of group sigs lengths room) member ++ sig ∷ [])
+  pub posts_pushed : (room bigger : ℕ)
+      → posts_in (lists_of group more longer bigger)
+      ≡ put (posts_in (lists_of group sigs lengths room)) member (posts_in (lists_of group sigs lengths room) member ++ sig ∷ [])
   posts_pushed room bigger = λ z m. at m z
     where
       old : ℕ → List Signature
@@ -236,7 +253,8 @@ module _ (group : List ℕ) (sigs more : List Signature) (lengths longer : List 
 
       at : (m : ℕ) → posts_in (lists_of group more longer bigger) m ≡ put old member (old member ++ sig ∷ []) m
       at m = posts_front more longer m ∙ elim (put_cases old member (old member ++ sig ∷ []) m) [
-        | inl here ↦ ap (λ n. take n more) (ap (λ k. get_or longer k 0) here.0 ∙ own) ∙ x.at ∙ ap (λ n. take n sigs ++ sig ∷ []) place_is ∙ ap (λ xs. xs ++ sig ∷ []) (sym (posts_front sigs lengths member)) ∙ sym here.1
+        | inl here ↦ ap (λ n. take n more) (ap (λ k. get_or longer k 0) here.0 ∙ own) ∙ x.at
+            ∙ ap (λ n. take n sigs ++ sig ∷ []) place_is ∙ ap (λ xs. xs ++ sig ∷ []) (sym (posts_front sigs lengths member)) ∙ sym here.1
         | inr else_where ↦ ap (λ n. take n more) (other m else_where.0) ∙ x.below _ (s.within m) ∙ sym (posts_front sigs lengths m) ∙ sym else_where.1
       ]
 
@@ -245,7 +263,8 @@ module _ (group : List ℕ) (sigs more : List Signature) (lengths longer : List 
   signed_pushed room bigger = λ z p. at p z
     where
       at : (p : ℕ) → signed_in (lists_of group more longer bigger) p ≡ put (signed_in (lists_of group sigs lengths room)) place (Some sig) p
-      at p = signed_front group more longer bigger fronts_pushed p ∙ x.signed p ∙ ap (λ f. put f place (Some sig) p) (λ z q. sym (signed_front group sigs lengths room s q) z)
+      at p = signed_front group more longer bigger fronts_pushed p ∙ x.signed p
+          ∙ ap (λ f. put f place (Some sig) p) (λ z q. sym (signed_front group sigs lengths room s q) z)
 
 -- nobody has posted
 pub no_posts : (group : List ℕ) (sigs : List Signature) (lengths : List ℕ) (room : ℕ) → sigs ≡ [] → posts_in (lists_of group sigs lengths room) ≡ (λ m. [])
@@ -256,7 +275,8 @@ zeros_are zero m = refl
 zeros_are (suc n) zero = refl
 zeros_are (suc n) (suc m) = zeros_are n m
 
-pub fronts_none : (group : List ℕ) (sigs : List Signature) (lengths : List ℕ) (n : ℕ) → length group ≤ 64 → sigs ≡ [] → lengths ≡ replicate n 0 → n ≡ length group → AreFronts group sigs lengths
+pub fronts_none : (group : List ℕ) (sigs : List Signature) (lengths : List ℕ) (n : ℕ) → length group ≤ 64 → sigs ≡ []
+    → lengths ≡ replicate n 0 → n ≡ length group → AreFronts group sigs lengths
 fronts_none group sigs lengths n few none zeros count = record {
   few = few;
   all = ap length zeros ∙ length-replicate n 0 ∙ count;

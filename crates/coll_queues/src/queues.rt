@@ -104,7 +104,8 @@ impl Queues {
     ///
     /// In this order: BadComm; NotMember; BadSignature with the first rule that the signature breaks for this group;
     /// Mismatch where another member has another signature at that place, with the world rank of the lowest member
-    /// that has the place, and its signature but for an allgatherv's counts, which `signature` gives; PlacesUsed where the list has its full length. The mode is part of the
+    /// that has the place, and its signature but for an allgatherv's counts, which `signature` gives; PlacesUsed where
+    /// the list has its full length. The mode is part of the
     /// signature, so a once call and a persistent one at one place are a Mismatch.
     pub fn judge(&self, comm: u32, rank: u8, sig: &Signature) -> Result<u32, Refusal>
         ensures refused { result_err result ≡ judge_refusal self.now comm rank sig.now }
@@ -150,7 +151,8 @@ impl Queues {
         ensures place { result ≡ place_of self.old comm rank }
         ensures groups { groups_of self.new ≡ groups_of self.old }
         ensures places { self.new.places ≡ self.old.places }
-        ensures posts { posts self.new ≡ put2 (posts self.old) comm (number_of self.old comm rank) (posts self.old comm (number_of self.old comm rank) ++ arc_value sig ∷ []) }
+        ensures posts { posts self.new
+            ≡ put2 (posts self.old) comm (number_of self.old comm rank) (posts self.old comm (number_of self.old comm rank) ++ arc_value sig ∷ []) }
         ensures signed { signed self.new ≡ put2 (signed self.old) comm (place_of self.old comm rank) (Some (arc_value sig)) }
     {
         let member = self.number(comm, rank);

@@ -1,5 +1,6 @@
 -- for builders: rounds that are made of parts, and what a round leaves in each region
-use Rattle.std.proofs.Common.{◌≡◌, ℕ, suc, ◌+◌, ◌%◌, ◌<◌, ◌≤◌, ◌≢◌, ◌⊎◌, inl, inr, eqb, List, [], ◌∷◌, ◌++◌, take, drop, length, Some, None, refl, sym, ap, subst, ◌∙◌, arith, eq-eqb, ne_eqb, replicate, take_at, drop_at, drop-drop, take-add}
+use Rattle.std.proofs.Common.{◌≡◌, ℕ, suc, ◌+◌, ◌%◌, ◌<◌, ◌≤◌, ◌≢◌, ◌⊎◌, inl, inr, eqb, List, [], ◌∷◌, ◌++◌, take, drop, length, Some, None, refl}
+use Rattle.std.proofs.Common.{sym, ap, subst, ◌∙◌, arith, eq-eqb, ne_eqb, replicate, take_at, drop_at, drop-drop, take-add}
 use Rattle.std.proofs.lemmas.Bool.{cond-true, cond-false}
 use Rattle.std.proofs.lemmas.List.{length-replicate, length-take-le}
 use Rattle.std.specs.List.{AllByRecursion}
@@ -8,7 +9,8 @@ use Rattle.coll_sched.specs.declared.action.Action.{Action}
 use Rattle.coll_sched.specs.declared.action.Action.TheVariants.{Send, Copy, Combine, Recv}
 use Rattle.coll_kinds.specs.Elements.{width}
 use Rattle.coll_ops.specs.Combinations.{combined}
-use Rattle.coll_sched.specs.Common.{read_of, written, Inside, wrote, wrote_all, writes, AllApart, Fits, Follows, EachFollows, Family, actions_at, messages, lock_step, read_at, IsLawful, out_link, in_link, IsRecvOf, Receives}
+use Rattle.coll_sched.specs.Common.{read_of, written, Inside, wrote, wrote_all, writes, AllApart, Fits, Follows, EachFollows, Family, actions_at}
+use Rattle.coll_sched.specs.Common.{messages, lock_step, read_at, IsLawful, out_link, in_link, IsRecvOf, Receives}
 use Rattle.coll_sched.proofs.Buffers.{flip, length_read}
 use Rattle.coll_ops.proofs.RowLists.{length-combined}
 use Rattle.coll_sched.proofs.Each.{all_map}
@@ -95,7 +97,8 @@ in_link_none (Combine op ty a b into ∷ xs) p h = in_link_none xs p h.1
 in_link_none (Send of into ∷ xs) p h = in_link_none xs p h.1
 
 -- reads of parts
-pub read_split : (buf : List ℕ) (a l m : ℕ) → read_of buf (record { at = a; len = l + m }) ≡ read_of buf (record { at = a; len = l }) ++ read_of buf (record { at = a + l; len = m })
+pub read_split : (buf : List ℕ) (a l m : ℕ)
+    → read_of buf (record { at = a; len = l + m }) ≡ read_of buf (record { at = a; len = l }) ++ read_of buf (record { at = a + l; len = m })
 read_split buf a l m = take-add l m (drop a buf) ∙ ap (λ xs. take l (drop a buf) ++ take m xs) (drop-drop l a buf)
 
 pub read_back : (buf : List ℕ) (g : Region) (bytes : List ℕ) → g.at + g.len ≤ length buf → length bytes ≡ g.len → read_of (written buf g bytes) g ≡ bytes
@@ -111,7 +114,8 @@ taken msgs mine (Combine op ty left right into) = combined op ty (read_of mine l
 taken msgs mine (Recv of into) = msgs of
 
 module _ (size : ℕ) (msgs : ℕ → List ℕ) (mine : List ℕ) (own : length mine ≡ size) where
-  held_now : (a : Action) (g : Region) (buf : List ℕ) → Fits size a → MessageFits msgs a → length buf ≡ size → writes a ≡ g ∷ [] → read_of (wrote msgs mine a buf) g ≡ taken msgs mine a
+  held_now : (a : Action) (g : Region) (buf : List ℕ) → Fits size a → MessageFits msgs a → length buf ≡ size → writes a ≡ g ∷ []
+      → read_of (wrote msgs mine a buf) g ≡ taken msgs mine a
   held_now (Send to from) g buf fits m e w = absurd (cc)
   held_now (Copy from into) g buf fits m e w =
       let s : into ≡ g = cc in
@@ -121,7 +125,8 @@ module _ (size : ℕ) (msgs : ℕ → List ℕ) (mine : List ℕ) (own : length 
       let s : into ≡ g = cc in
       let l : length (read_of mine left) ≡ left.len = length_read mine left (omega arith) in
       let whole : length (read_of mine left) % width ty ≡ 0 = ap (λ k. k % width ty) (l ∙ fits.3) ∙ fits.6 in
-      subst (λ h. read_of (written buf into (combined op ty (read_of mine left) (read_of mine right))) h ≡ combined op ty (read_of mine left) (read_of mine right)) s
+      subst (λ h. read_of (written buf into (combined op ty (read_of mine left) (read_of mine right))) h
+      ≡ combined op ty (read_of mine left) (read_of mine right)) s
       (read_back buf into (combined op ty (read_of mine left) (read_of mine right)) (omega arith)
       (length-combined op ty (read_of mine left) (read_of mine right) whole ∙ (l ∙ fits.3)))
   held_now (Recv of into) g buf fits m e w =
@@ -135,14 +140,16 @@ module _ (size : ℕ) (msgs : ℕ → List ℕ) (mine : List ℕ) (own : length 
   inside_write (Recv of into) g fits w = let s : into ≡ g = cc in subst (λ h. Inside size h) s fits
 
   -- after a round each written region holds what its action wrote
-  pub held : (xs : List Action) (a : Action) (g : Region) (buf : List ℕ) → EachFollows xs → AllByRecursion (Fits size) xs → AllByRecursion (MessageFits msgs) xs → length buf ≡ size → Has xs a → writes a ≡ g ∷ [] → read_of (wrote_all msgs mine xs buf) g ≡ taken msgs mine a
+  pub held : (xs : List Action) (a : Action) (g : Region) (buf : List ℕ) → EachFollows xs → AllByRecursion (Fits size) xs
+      → AllByRecursion (MessageFits msgs) xs → length buf ≡ size → Has xs a → writes a ≡ g ∷ [] → read_of (wrote_all msgs mine xs buf) g ≡ taken msgs mine a
   held [] a g buf f fits m e h w = absurd h
   held (x ∷ xs) a g buf f fits m e (inr h) w = held xs a g (wrote msgs mine x buf) f.1 fits.1 m.1 (length_wrote size msgs mine own x buf fits.0 m.0 e) h w
   held (x ∷ xs) a g buf f fits m e (inl h) w =
       let ws : writes x ≡ g ∷ [] = ap writes h ∙ w in
       (reads_kept size msgs mine own xs (wrote msgs mine x buf) (g ∷ []) fits.1 m.1 (length_wrote size msgs mine own x buf fits.0 m.0 e)
       (inside_write x g fits.0 ws, tt)
-      (all_map (Follows x) (λ b. AllApart (writes b) (g ∷ [])) (λ b k. turned_round (writes b) (subst (λ ws. AllApart ws (writes b)) ws k.both_written)) xs f.0)).0
+      (all_map (Follows x) (λ b. AllApart (writes b) (g ∷ []))
+      (λ b k. turned_round (writes b) (subst (λ ws. AllApart ws (writes b)) ws k.both_written)) xs f.0)).0
       ∙ (held_now x g buf fits.0 m.0 e ws ∙ ap (taken msgs mine) h)
     where
       turned_round : (ws : List Region) → AllApart (g ∷ []) ws → AllApart ws (g ∷ [])
@@ -151,20 +158,26 @@ module _ (size : ℕ) (msgs : ℕ → List ℕ) (mine : List ℕ) (own : length 
 
 -- a whole family's rounds: what each region holds after a round, and what a message is
 module _ (n : ℕ) (f : Family) (lawful : IsLawful n f) (given : ℕ → List ℕ) (laid : GivenFits n f given) where
-  pub round_held : (j r : ℕ) (a : Action) (g : Region) → r < n → Has (actions_at f j r) a → writes a ≡ g ∷ [] → read_of (lock_step f given (suc j) r) g ≡ taken (messages f given j r) (lock_step f given j r) a
+  pub round_held : (j r : ℕ) (a : Action) (g : Region) → r < n → Has (actions_at f j r) a → writes a ≡ g ∷ []
+      → read_of (lock_step f given (suc j) r) g ≡ taken (messages f given j r) (lock_step f given j r) a
   round_held j r a g low h w =
-      held (f r).size (messages f given j r) (lock_step f given j r) (length_lock_step n f lawful given laid j r low) (actions_at f j r) a g (lock_step f given j r)
-      ((round_at (f r) (lawful.schedules r low) j).follows) ((round_at (f r) (lawful.schedules r low) j).fits) (message_fits n f lawful given j r low (λ q k. length_lock_step n f lawful given laid j q k))
+      held (f r).size (messages f given j r) (lock_step f given j r) (length_lock_step n f lawful given laid j r low)
+      (actions_at f j r) a g (lock_step f given j r)
+      ((round_at (f r) (lawful.schedules r low) j).follows) ((round_at (f r) (lawful.schedules r low) j).fits)
+      (message_fits n f lawful given j r low (λ q k. length_lock_step n f lawful given laid j q k))
       (length_lock_step n f lawful given laid j r low) h w
 
-  pub round_kept : (j r : ℕ) (g : Region) → r < n → Inside (f r).size g → AllByRecursion (λ a. AllApart (writes a) (g ∷ [])) (actions_at f j r) → read_of (lock_step f given (suc j) r) g ≡ read_of (lock_step f given j r) g
+  pub round_kept : (j r : ℕ) (g : Region) → r < n → Inside (f r).size g
+      → AllByRecursion (λ a. AllApart (writes a) (g ∷ [])) (actions_at f j r) → read_of (lock_step f given (suc j) r) g ≡ read_of (lock_step f given j r) g
   round_kept j r g low inside apart =
-      (reads_kept (f r).size (messages f given j r) (lock_step f given j r) (length_lock_step n f lawful given laid j r low) (actions_at f j r) (lock_step f given j r) (g ∷ [])
+      (reads_kept (f r).size (messages f given j r) (lock_step f given j r) (length_lock_step n f lawful given laid j r low)
+      (actions_at f j r) (lock_step f given j r) (g ∷ [])
       ((round_at (f r) (lawful.schedules r low) j).fits) (message_fits n f lawful given j r low (λ q k. length_lock_step n f lawful given laid j q k))
       (length_lock_step n f lawful given laid j r low) (inside, tt) apart).0
 
   pub message_is : (j r q : ℕ) (from : Region) → q < n → Has (actions_at f j q) (Send r from) → messages f given j r q ≡ read_of (lock_step f given j q) from
-  message_is j r q from low h = ap (read_at (lock_step f given j q)) (out_link_has (actions_at f j q) r from ((round_at (f q) (lawful.schedules q low) j).follows) h)
+  message_is j r q from low h =
+      ap (read_at (lock_step f given j q)) (out_link_has (actions_at f j q) r from ((round_at (f q) (lawful.schedules q low) j).follows) h)
 
   pub input_held : (r : ℕ) → r < n → read_of (lock_step f given 0 r) (f r).input ≡ given r
   input_held r low =

@@ -1,5 +1,6 @@
 -- the order of a round's actions, and the exchanges of a member and of its family
-use Rattle.std.proofs.Common.{◌≡◌, ℕ, zero, suc, ◌+◌, ◌%◌, ◌<◌, ◌≤◌, ◌⊎◌, inl, inr, ◌||◌, Bool, true, false, cond, List, [], ◌∷◌, length, slice_get, unwrap_or, Some, refl, sym, ap, subst, ◌∙◌, arith, count_by}
+use Rattle.std.proofs.Common.{◌≡◌, ℕ, zero, suc, ◌+◌, ◌%◌, ◌<◌, ◌≤◌, ◌⊎◌, inl, inr, ◌||◌, Bool, true, false, cond, List, [], ◌∷◌, length, slice_get}
+use Rattle.std.proofs.Common.{unwrap_or, Some, refl, sym, ap, subst, ◌∙◌, arith, count_by}
 use Rattle.std.proofs.lemmas.Bool.{cases_eq}
 use Rattle.std.proofs.lemmas.List.Sums.{sum_by-cons}
 use Rattle.std.specs.List.{AllByRecursion, list_any}
@@ -8,7 +9,8 @@ use Rattle.coll_ops.specs.Combinations.{combined}
 use Rattle.coll_sched.specs.declared.region.Region.{Region}
 use Rattle.coll_sched.specs.declared.action.Action.{Action}
 use Rattle.coll_sched.specs.declared.action.Action.TheVariants.{Send, Copy, Combine, Recv}
-use Rattle.coll_sched.specs.Common.{Inside, Apart, read_of, written, writes, Fits, AllApart, Follows, EachFollows, wrote, wrote_all, has_peer, Family, actions_at, lock_step, messages, members, is_exchange}
+use Rattle.coll_sched.specs.Common.{Inside, Apart, read_of, written, writes, Fits, AllApart, Follows, EachFollows, wrote, wrote_all, has_peer, Family}
+use Rattle.coll_sched.specs.Common.{actions_at, lock_step, messages, members, is_exchange}
 use Rattle.coll_sched.specs.Schedules.{exchanges}
 use Rattle.coll_sched.specs.Orders.{Reordered, same, swap, under, both, Commutes, BoundsMembers}
 use Rattle.coll_sched.proofs.Buffers.{flip, length_read, written_swap}
@@ -91,33 +93,41 @@ module _ (size : ℕ) (msgs : ℕ → List ℕ) (mine : List ℕ) (own : length 
   })
 
   -- two actions that write apart may be done in either order
-  pub wrote_swap : (a b : Action) (buf : List ℕ) → Fits size a → Fits size b → MessageFits msgs a → MessageFits msgs b → AllApart (writes a) (writes b) → length buf ≡ size → wrote msgs mine a (wrote msgs mine b buf) ≡ wrote msgs mine b (wrote msgs mine a buf)
+  pub wrote_swap : (a b : Action) (buf : List ℕ) → Fits size a → Fits size b → MessageFits msgs a → MessageFits msgs b
+      → AllApart (writes a) (writes b) → length buf ≡ size → wrote msgs mine a (wrote msgs mine b buf) ≡ wrote msgs mine b (wrote msgs mine a buf)
   wrote_swap a b buf fa fb ma mb apart e = go (writing a fa ma) (writing b fb mb)
     where
-      go : ((buf : List ℕ) → wrote msgs mine a buf ≡ buf) ⊎ Writing size msgs mine a → ((buf : List ℕ) → wrote msgs mine b buf ≡ buf) ⊎ Writing size msgs mine b → wrote msgs mine a (wrote msgs mine b buf) ≡ wrote msgs mine b (wrote msgs mine a buf)
+      go : ((buf : List ℕ) → wrote msgs mine a buf ≡ buf) ⊎ Writing size msgs mine a
+          → ((buf : List ℕ) → wrote msgs mine b buf ≡ buf) ⊎ Writing size msgs mine b
+          → wrote msgs mine a (wrote msgs mine b buf) ≡ wrote msgs mine b (wrote msgs mine a buf)
       go (inl x) y = x (wrote msgs mine b buf) ∙ sym (ap (wrote msgs mine b) (x buf))
       go (inr x) (inl y) = ap (wrote msgs mine a) (y buf) ∙ sym (y (wrote msgs mine a buf))
       go (inr x) (inr y) =
-          let away : AllApart (x.into ∷ []) (y.into ∷ []) = subst (λ gs. AllApart gs (y.into ∷ [])) x.region_is (subst (λ hs. AllApart (writes a) hs) y.region_is apart) in
+          let away : AllApart (x.into ∷ []) (y.into ∷ []) =
+          subst (λ gs. AllApart gs (y.into ∷ [])) x.region_is (subst (λ hs. AllApart (writes a) hs) y.region_is apart) in
           let gin : Inside size x.into = x.inside in
           let hin : Inside size y.into = y.inside in
           ap (wrote msgs mine a) (y.does buf) ∙ (x.does (written buf y.into y.bytes)
           ∙ (sym (written_swap buf x.into y.into x.bytes y.bytes (omega arith) (omega arith) x.len y.len away.0.0)
           ∙ sym (ap (wrote msgs mine b) (x.does buf) ∙ y.does (written buf x.into x.bytes))))
 
-  wrote_reordered : {xs ys : List Action} → Reordered xs ys → AllByRecursion (Fits size) xs → AllByRecursion (MessageFits msgs) xs → EachApart xs → (buf : List ℕ) → length buf ≡ size → wrote_all msgs mine ys buf ≡ wrote_all msgs mine xs buf
+  wrote_reordered : {xs ys : List Action} → Reordered xs ys → AllByRecursion (Fits size) xs
+      → AllByRecursion (MessageFits msgs) xs → EachApart xs → (buf : List ℕ) → length buf ≡ size → wrote_all msgs mine ys buf ≡ wrote_all msgs mine xs buf
   unfolding EachApart
   wrote_reordered same fits m apart buf e = refl
   wrote_reordered (swap {xs = xs} a b) fits m apart buf e = ap (wrote_all msgs mine xs) (wrote_swap a b buf fits.0 fits.1.0 m.0 m.1.0 apart.0.0 e)
-  wrote_reordered (under a r) fits m apart buf e = wrote_reordered r fits.1 m.1 apart.1 (wrote msgs mine a buf) (length_wrote size msgs mine own a buf fits.0 m.0 e)
+  wrote_reordered (under a r) fits m apart buf e =
+      wrote_reordered r fits.1 m.1 apart.1 (wrote msgs mine a buf) (length_wrote size msgs mine own a buf fits.0 m.0 e)
   wrote_reordered (both r s) fits m apart buf e =
-      wrote_reordered s (all_reordered (Fits size) r fits) (all_reordered (MessageFits msgs) r m) (apart_reordered r apart) buf e ∙ wrote_reordered r fits m apart buf e
+      wrote_reordered s (all_reordered (Fits size) r fits) (all_reordered (MessageFits msgs) r m) (apart_reordered r apart) buf e
+      ∙ wrote_reordered r fits m apart buf e
 
 pub commutes : Commutes
 commutes n f lawful given laid j r low ys order =
     wrote_reordered (f r).size (messages f given j r) (lock_step f given j r) (length_lock_step n f lawful given laid j r low) order
     ((round_at (f r) (lawful.schedules r low) j).fits) (message_fits n f lawful given j r low (λ q k. length_lock_step n f lawful given laid j q k))
-    (each_apart (actions_at f j r) ((round_at (f r) (lawful.schedules r low) j).follows)) (lock_step f given j r) (length_lock_step n f lawful given laid j r low)
+    (each_apart (actions_at f j r) ((round_at (f r) (lawful.schedules r low) j).follows)) (lock_step f given j r)
+    (length_lock_step n f lawful given laid j r low)
 
 -- a member's exchange is one of the family
 true_or : (a b : Bool) → (a ≡ true) ⊎ (b ≡ true) → (a || b) ≡ true
@@ -146,22 +156,27 @@ count_not_here p x xs e = count_cons p x xs ∙ ap (λ (b : Bool). cond b 1 0 + 
 more : {X : Type 0} (p : X → Bool) (x : X) (xs : List X) → count_by p xs ≤ count_by p (x ∷ xs)
 more p x xs = omega (arith, count_cons p x xs)
 
-bounds : (n : ℕ) (f : Family) (r : ℕ) → r < n → (xs : List (List Action)) (k : ℕ) → ((i : ℕ) (a : List Action) → slice_get xs i ≡ Some a → actions_at f (k + i) r ≡ a) → exchanges xs ≤ count_by (is_exchange n f) (members k (length xs))
+bounds : (n : ℕ) (f : Family) (r : ℕ) → r < n → (xs : List (List Action)) (k : ℕ)
+    → ((i : ℕ) (a : List Action) → slice_get xs i ≡ Some a → actions_at f (k + i) r ≡ a) → exchanges xs ≤ count_by (is_exchange n f) (members k (length xs))
 bounds n f r low [] k h = omega arith
 bounds n f r low (x ∷ xs) k h =
-    let rest : exchanges xs ≤ count_by (is_exchange n f) (members (suc k) (length xs)) = bounds n f r low xs (suc k) (λ i a e. ap (λ j. actions_at f j r) (let z : suc k + i ≡ k + suc i = omega arith in z) ∙ h (suc i) a e) in
+    let rest : exchanges xs ≤ count_by (is_exchange n f) (members (suc k) (length xs)) =
+    bounds n f r low xs (suc k) (λ i a e. ap (λ j. actions_at f j r) (let z : suc k + i ≡ k + suc i = omega arith in z) ∙ h (suc i) a e) in
     go rest (list_any has_peer x) refl
   where
-    go : exchanges xs ≤ count_by (is_exchange n f) (members (suc k) (length xs)) → (b : Bool) → list_any has_peer x ≡ b → exchanges (x ∷ xs) ≤ count_by (is_exchange n f) (members k (suc (length xs)))
+    go : exchanges xs ≤ count_by (is_exchange n f) (members (suc k) (length xs)) → (b : Bool) → list_any has_peer x ≡ b
+        → exchanges (x ∷ xs) ≤ count_by (is_exchange n f) (members k (suc (length xs)))
     go rest false e =
         let z : exchanges (x ∷ xs) ≡ 0 + exchanges xs = count_not_here (list_any has_peer) x xs e in
-        let y : count_by (is_exchange n f) (members (suc k) (length xs)) ≤ count_by (is_exchange n f) (members k (suc (length xs))) = more (is_exchange n f) k (members (suc k) (length xs)) in
+        let y : count_by (is_exchange n f) (members (suc k) (length xs)) ≤ count_by (is_exchange n f) (members k (suc (length xs))) =
+        more (is_exchange n f) k (members (suc k) (length xs)) in
         omega arith
     go rest true e =
         let here : actions_at f k r ≡ x = ap (λ j. actions_at f j r) (let z : k ≡ k + 0 = omega arith in z) ∙ h 0 x refl in
         let z : exchanges (x ∷ xs) ≡ 1 + exchanges xs = count_here (list_any has_peer) x xs e in
         let y : count_by (is_exchange n f) (members k (suc (length xs))) ≡ 1 + count_by (is_exchange n f) (members (suc k) (length xs)) =
-        count_here (is_exchange n f) k (members (suc k) (length xs)) (any_member (λ q. list_any has_peer (actions_at f k q)) 0 n r (omega arith) (omega arith) (ap (list_any has_peer) here ∙ e)) in
+        count_here (is_exchange n f) k (members (suc k) (length xs))
+        (any_member (λ q. list_any has_peer (actions_at f k q)) 0 n r (omega arith) (omega arith) (ap (list_any has_peer) here ∙ e)) in
         omega arith
 
 pub bounds_members : BoundsMembers

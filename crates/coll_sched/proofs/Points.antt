@@ -1,5 +1,6 @@
 -- Points of a schedule: going over ends of rounds, and the actions that remain
-use Rattle.std.proofs.Common.{◌≡◌, ℕ, zero, suc, ◌+◌, ◌-◌, ◌<◌, ◌≤◌, ◌⊎◌, inl, inr, List, [], ◌∷◌, length, slice_get, unwrap_or, Option, Some, refl, sym, ap, subst, ◌∙◌, arith, add-suc, add-zero}
+use Rattle.std.proofs.Common.{◌≡◌, ℕ, zero, suc, ◌+◌, ◌-◌, ◌<◌, ◌≤◌, ◌⊎◌, inl, inr, List, [], ◌∷◌, length, slice_get, unwrap_or, Option, Some, refl}
+use Rattle.std.proofs.Common.{sym, ap, subst, ◌∙◌, arith, add-suc, add-zero}
 use Rattle.std.proofs.lemmas.Bool.{cases_eq}
 use Rattle.coll_sched.specs.declared.action.Action.{Action}
 use Rattle.coll_sched.specs.Common.{Parts, Progress, Tracks, actions_of, Over, IsPoint, left_in, remaining}
@@ -69,7 +70,8 @@ goes_over n f w r p k i t at (inl e) =
     point = λ z. Some (record { round = e.0 z; index = e.1 z; buf = p.buf })
 
     same : (s : ℕ) → (s ≡ r) ⊎ (s ≡ r → ⊥) → put w.progress r (Some (record { round = k; index = i; buf = p.buf })) s ≡ w.progress s
-    same s (inl h) = ap (put w.progress r (Some (record { round = k; index = i; buf = p.buf }))) h ∙ (put_same w.progress r _ ∙ (point ∙ (sym at ∙ sym (ap w.progress h))))
+    same s (inl h) =
+        ap (put w.progress r (Some (record { round = k; index = i; buf = p.buf }))) h ∙ (put_same w.progress r _ ∙ (point ∙ (sym at ∙ sym (ap w.progress h))))
     same s (inr d) = put_other w.progress r _ s d
 goes_over n f w r p k i t at (inr o) =
     subst (λ z. Tracks n f (at_point w r p z i)) (sym o.1)
@@ -78,7 +80,15 @@ goes_over n f w r p k i t at (inr o) =
 -- over the end of one more round
 pub over_next : (p : Parts) (j x k i : ℕ) → Over p j x k i → i ≡ length (actions_of p k) → k < length p.rounds → Over p j x (k + 1) 0
 over_next p j x k i (inl e) done low =
-    inr (0, omega (arith, e.0), refl, sym e.1 ∙ (done ∙ ap (λ z. length (actions_of p z)) e.0), omega (arith, e.0, low), λ y above most. absurd (omega (arith, above, most)))
+    inr (
+      0,
+      omega (arith, e.0),
+      refl,
+      sym e.1
+          ∙ (done ∙ ap (λ z. length (actions_of p z)) e.0),
+      omega (arith, e.0, low),
+      λ y above most. absurd (omega (arith, above, most)),
+    )
 over_next p j x k i (inr o) done low =
     inr (suc o.0, omega (arith, o.1), refl, o.3, omega (arith, o.1, low), between)
   where

@@ -1,5 +1,6 @@
 -- a round in steps: its prefix, what it reads, and on what it rests
-use Rattle.std.proofs.Common.{◌≡◌, ℕ, zero, suc, ◌%◌, ◌<◌, ◌≤◌, inl, inr, true, false, cond, eqb, List, [], ◌∷◌, take, length, replicate, slice_get, unwrap_or, Option, Some, None, refl, sym, ap, ◌∙◌, arith, eq-eqb, ne_eqb}
+use Rattle.std.proofs.Common.{◌≡◌, ℕ, zero, suc, ◌%◌, ◌<◌, ◌≤◌, inl, inr, true, false, cond, eqb, List, [], ◌∷◌, take, length, replicate, slice_get}
+use Rattle.std.proofs.Common.{unwrap_or, Option, Some, None, refl, sym, ap, ◌∙◌, arith, eq-eqb, ne_eqb}
 use Rattle.std.proofs.lemmas.Option.{none-some, same_Some, slice_get_past}
 use Rattle.std.proofs.lemmas.List.{length-replicate, take_all}
 use Rattle.std.proofs.lemmas.Bool.{cond-true, cond-false}
@@ -9,7 +10,9 @@ use Rattle.coll_sched.specs.declared.action.Action.{Action}
 use Rattle.coll_sched.specs.declared.action.Action.TheVariants.{Send, Copy, Combine, Recv}
 use Rattle.coll_kinds.specs.Elements.{width}
 use Rattle.coll_ops.specs.Combinations.{combined}
-use Rattle.coll_sched.specs.Common.{read_of, written, Inside, Apart, IsAmong, wrote, wrote_all, writes, AllApart, Fits, Follows, EachFollows, Parts, IsRound, IsSchedule, Family, actions_at, out_link, in_link, read_at, laid_in, lock_step, messages, IsRecvOf, Receives, Heard, len_of, IsLawful}
+use Rattle.coll_sched.specs.Common.{read_of, written, Inside, Apart, IsAmong, wrote, wrote_all, writes, AllApart, Fits, Follows, EachFollows, Parts}
+use Rattle.coll_sched.specs.Common.{IsRound, IsSchedule, Family, actions_at, out_link, in_link, read_at, laid_in, lock_step, messages, IsRecvOf}
+use Rattle.coll_sched.specs.Common.{Receives, Heard, len_of, IsLawful}
 use Rattle.coll_sched.specs.Actions.{reads}
 use Rattle.coll_sched.specs.Families.{sent}
 use Rattle.coll_sched.specs.Tracks.{moment}
@@ -36,11 +39,13 @@ module _ (size : ℕ) (msgs : ℕ → List ℕ) (mine : List ℕ) (own : length 
       (length-combined op ty (read_of mine left) (read_of mine right) whole ∙ (l ∙ fits.3)) ∙ e
   length_wrote (Recv of into) buf fits m e = length_written buf into (msgs of) (omega arith) m ∙ e
 
-  pub length_wrote_all : (xs : List Action) (buf : List ℕ) → AllByRecursion (Fits size) xs → AllByRecursion (MessageFits msgs) xs → length buf ≡ size → length (wrote_all msgs mine xs buf) ≡ size
+  pub length_wrote_all : (xs : List Action) (buf : List ℕ) → AllByRecursion (Fits size) xs → AllByRecursion (MessageFits msgs) xs
+      → length buf ≡ size → length (wrote_all msgs mine xs buf) ≡ size
   length_wrote_all [] buf fits m e = e
   length_wrote_all (a ∷ xs) buf fits m e = length_wrote_all xs (wrote msgs mine a buf) fits.1 m.1 (length_wrote a buf fits.0 m.0 e)
 
-  pub read_wrote : (a : Action) (buf : List ℕ) (g : Region) → Fits size a → MessageFits msgs a → length buf ≡ size → Inside size g → AllByRecursion (λ w. Apart w g) (writes a) → read_of (wrote msgs mine a buf) g ≡ read_of buf g
+  pub read_wrote : (a : Action) (buf : List ℕ) (g : Region) → Fits size a → MessageFits msgs a → length buf ≡ size
+      → Inside size g → AllByRecursion (λ w. Apart w g) (writes a) → read_of (wrote msgs mine a buf) g ≡ read_of buf g
   read_wrote (Send to from) buf g fits m e inside apart = refl
   read_wrote (Copy from into) buf g fits m e inside apart =
       read_apart buf into g (read_of mine from) (omega arith) (length_read mine from (omega arith) ∙ fits.2) apart.0 (omega arith)
@@ -51,14 +56,18 @@ module _ (size : ℕ) (msgs : ℕ → List ℕ) (mine : List ℕ) (own : length 
       (length-combined op ty (read_of mine left) (read_of mine right) whole ∙ (l ∙ fits.3)) apart.0 (omega arith)
   read_wrote (Recv of into) buf g fits m e inside apart = read_apart buf into g (msgs of) (omega arith) m apart.0 (omega arith)
 
-  read_wrote_all : (xs : List Action) (buf : List ℕ) (g : Region) → AllByRecursion (Fits size) xs → AllByRecursion (MessageFits msgs) xs → length buf ≡ size → Inside size g → AllByRecursion (λ a. AllByRecursion (λ w. Apart w g) (writes a)) xs → read_of (wrote_all msgs mine xs buf) g ≡ read_of buf g
+  read_wrote_all : (xs : List Action) (buf : List ℕ) (g : Region) → AllByRecursion (Fits size) xs
+      → AllByRecursion (MessageFits msgs) xs → length buf ≡ size → Inside size g
+      → AllByRecursion (λ a. AllByRecursion (λ w. Apart w g) (writes a)) xs → read_of (wrote_all msgs mine xs buf) g ≡ read_of buf g
   read_wrote_all [] buf g fits m e inside apart = refl
   read_wrote_all (a ∷ xs) buf g fits m e inside apart =
       read_wrote_all xs (wrote msgs mine a buf) g fits.1 m.1 (length_wrote a buf fits.0 m.0 e) inside apart.1
       ∙ read_wrote a buf g fits.0 m.0 e inside apart.0
 
   -- regions that no action writes read as before
-  pub reads_kept : (xs : List Action) (buf : List ℕ) (gs : List Region) → AllByRecursion (Fits size) xs → AllByRecursion (MessageFits msgs) xs → length buf ≡ size → AllByRecursion (Inside size) gs → AllByRecursion (λ a. AllApart (writes a) gs) xs → AllByRecursion (λ g. read_of (wrote_all msgs mine xs buf) g ≡ read_of buf g) gs
+  pub reads_kept : (xs : List Action) (buf : List ℕ) (gs : List Region) → AllByRecursion (Fits size) xs
+      → AllByRecursion (MessageFits msgs) xs → length buf ≡ size → AllByRecursion (Inside size) gs
+      → AllByRecursion (λ a. AllApart (writes a) gs) xs → AllByRecursion (λ g. read_of (wrote_all msgs mine xs buf) g ≡ read_of buf g) gs
   reads_kept xs buf [] fits m e inside apart = tt
   reads_kept xs buf (g ∷ gs) fits m e inside apart = (
     read_wrote_all xs buf g fits m e inside.0
@@ -70,7 +79,8 @@ module _ (size : ℕ) (msgs : ℕ → List ℕ) (mine : List ℕ) (own : length 
   )
 
 -- an action does the same over two buffers that agree where it reads
-pub wrote_same : (msgs : ℕ → List ℕ) (mine other : List ℕ) (a : Action) (buf : List ℕ) → AllByRecursion (λ g. read_of other g ≡ read_of mine g) (reads a) → wrote msgs other a buf ≡ wrote msgs mine a buf
+pub wrote_same : (msgs : ℕ → List ℕ) (mine other : List ℕ) (a : Action) (buf : List ℕ)
+    → AllByRecursion (λ g. read_of other g ≡ read_of mine g) (reads a) → wrote msgs other a buf ≡ wrote msgs mine a buf
 wrote_same msgs mine other (Send to from) buf h = refl
 wrote_same msgs mine other (Copy from into) buf h = ap (written buf into) h.0
 wrote_same msgs mine other (Combine op ty left right into) buf h =
@@ -78,7 +88,8 @@ wrote_same msgs mine other (Combine op ty left right into) buf h =
 wrote_same msgs mine other (Recv of into) buf h = refl
 
 -- one action more
-pub wrote_all_next : (msgs : ℕ → List ℕ) (mine : List ℕ) (xs : List Action) (i : ℕ) (a : Action) (buf : List ℕ) → slice_get xs i ≡ Some a → wrote_all msgs mine (take (suc i) xs) buf ≡ wrote msgs mine a (wrote_all msgs mine (take i xs) buf)
+pub wrote_all_next : (msgs : ℕ → List ℕ) (mine : List ℕ) (xs : List Action) (i : ℕ) (a : Action) (buf : List ℕ)
+    → slice_get xs i ≡ Some a → wrote_all msgs mine (take (suc i) xs) buf ≡ wrote msgs mine a (wrote_all msgs mine (take i xs) buf)
 wrote_all_next msgs mine [] i a buf e = absurd (none-some a e)
 wrote_all_next msgs mine (x ∷ xs) zero a buf e = ap (λ (y : Action). wrote msgs mine y buf) (same_Some x a e)
 wrote_all_next msgs mine (x ∷ xs) (suc i) a buf e = wrote_all_next msgs mine xs i a (wrote msgs mine x buf) e
@@ -153,7 +164,8 @@ module _ (n : ℕ) (f : Family) (lawful : IsLawful n f) (given : ℕ → List �
   fits_at j r low = (round_at (f r) (lawful.schedules r low) j).fits
 
   -- every message of a round has the length of the region that takes it
-  pub message_fits : (j r : ℕ) → r < n → ((q : ℕ) → q < n → length (lock_step f given j q) ≡ (f q).size) → AllByRecursion (MessageFits (messages f given j r)) (actions_at f j r)
+  pub message_fits : (j r : ℕ) → r < n → ((q : ℕ) → q < n → length (lock_step f given j q) ≡ (f q).size)
+      → AllByRecursion (MessageFits (messages f given j r)) (actions_at f j r)
   message_fits j r low lens = all_from_at (MessageFits (messages f given j r)) (actions_at f j r) (λ i a e. at_action i a e)
     where
       at_action : (i : ℕ) (a : Action) → slice_get (actions_at f j r) i ≡ Some a → MessageFits (messages f given j r) a
@@ -169,36 +181,44 @@ module _ (n : ℕ) (f : Family) (lawful : IsLawful n f) (given : ℕ → List �
   pub length_lock_step : GivenFits n f given → (j r : ℕ) → r < n → length (lock_step f given j r) ≡ (f r).size
   length_lock_step laid zero r low =
       let inside : Inside (f r).size (f r).input = (lawful.schedules r low).input_inside in
-      length_written (replicate (f r).size 0) (f r).input (given r) (omega (arith, length-replicate {A = ℕ} (f r).size 0)) (laid r low) ∙ length-replicate {A = ℕ} (f r).size 0
+      length_written (replicate (f r).size 0) (f r).input (given r) (omega (arith, length-replicate {A = ℕ} (f r).size 0)) (laid r low)
+      ∙ length-replicate {A = ℕ} (f r).size 0
   length_lock_step laid (suc j) r low =
       length_wrote_all (f r).size (messages f given j r) (lock_step f given j r) (length_lock_step laid j r low) (actions_at f j r) (lock_step f given j r)
       (fits_at j r low) (message_fits j r low (λ q h. length_lock_step laid j q h)) (length_lock_step laid j r low)
 
   pub length_moment : GivenFits n f given → (j i r : ℕ) → r < n → length (moment f given j i r) ≡ (f r).size
   length_moment laid j i r low =
-      length_wrote_all (f r).size (messages f given j r) (lock_step f given j r) (length_lock_step laid j r low) (take i (actions_at f j r)) (lock_step f given j r)
+      length_wrote_all (f r).size (messages f given j r) (lock_step f given j r) (length_lock_step laid j r low)
+      (take i (actions_at f j r)) (lock_step f given j r)
       (all_take (Fits (f r).size) (actions_at f j r) i (fits_at j r low))
       (all_take (MessageFits (messages f given j r)) (actions_at f j r) i (message_fits j r low (λ q h. length_lock_step laid j q h)))
       (length_lock_step laid j r low)
 
   -- what the next action reads is still what the round began with
-  pub reads_at_moment : GivenFits n f given → (j i r : ℕ) (a : Action) → r < n → slice_get (actions_at f j r) i ≡ Some a → AllByRecursion (λ g. read_of (moment f given j i r) g ≡ read_of (lock_step f given j r) g) (reads a)
+  pub reads_at_moment : GivenFits n f given → (j i r : ℕ) (a : Action) → r < n → slice_get (actions_at f j r) i ≡ Some a
+      → AllByRecursion (λ g. read_of (moment f given j i r) g ≡ read_of (lock_step f given j r) g) (reads a)
   reads_at_moment laid j i r a low e =
-      reads_kept (f r).size (messages f given j r) (lock_step f given j r) (length_lock_step laid j r low) (take i (actions_at f j r)) (lock_step f given j r) (reads a)
+      reads_kept (f r).size (messages f given j r) (lock_step f given j r) (length_lock_step laid j r low)
+      (take i (actions_at f j r)) (lock_step f given j r) (reads a)
       (all_take (Fits (f r).size) (actions_at f j r) i (fits_at j r low))
       (all_take (MessageFits (messages f given j r)) (actions_at f j r) i (message_fits j r low (λ q h. length_lock_step laid j q h)))
       (length_lock_step laid j r low)
       (inside_reads (f r).size a (all_at (Fits (f r).size) (actions_at f j r) i a (fits_at j r low) e))
-      (all_map (λ b. Follows b a) (λ b. AllApart (writes b) (reads a)) (λ b h. h.read_later) (take i (actions_at f j r)) (before_at (actions_at f j r) i a ((round_at (f r) (lawful.schedules r low) j).follows) e))
+      (all_map (λ b. Follows b a) (λ b. AllApart (writes b) (reads a)) (λ b h. h.read_later) (take i (actions_at f j r))
+      (before_at (actions_at f j r) i a ((round_at (f r) (lawful.schedules r low) j).follows) e))
 
   -- one action over the buffer as it stands is one action of the round
-  pub moment_next : GivenFits n f given → (j i r : ℕ) (a : Action) → r < n → slice_get (actions_at f j r) i ≡ Some a → moment f given j (suc i) r ≡ wrote (messages f given j r) (moment f given j i r) a (moment f given j i r)
+  pub moment_next : GivenFits n f given → (j i r : ℕ) (a : Action) → r < n → slice_get (actions_at f j r) i ≡ Some a
+      → moment f given j (suc i) r ≡ wrote (messages f given j r) (moment f given j i r) a (moment f given j i r)
   moment_next laid j i r a low e =
       wrote_all_next (messages f given j r) (lock_step f given j r) (actions_at f j r) i a (lock_step f given j r) e
       ∙ sym (wrote_same (messages f given j r) (lock_step f given j r) (moment f given j i r) a (moment f given j i r) (reads_at_moment laid j i r a low e))
 
 pub moment_end : (f : Family) (given : ℕ → List ℕ) (j r : ℕ) → moment f given j (length (actions_at f j r)) r ≡ lock_step f given (suc j) r
-moment_end f given j r = ap (λ xs. wrote_all (messages f given j r) (lock_step f given j r) xs (lock_step f given j r)) (take_all (length (actions_at f j r)) (actions_at f j r) (omega arith))
+moment_end f given j r =
+    ap (λ xs. wrote_all (messages f given j r) (lock_step f given j r) xs (lock_step f given j r))
+    (take_all (length (actions_at f j r)) (actions_at f j r) (omega arith))
 
 pub actions_past : (f : Family) (j r : ℕ) → length (f r).rounds ≤ j → actions_at f j r ≡ []
 actions_past f j r h = ap (λ o. unwrap_or o []) (slice_get_past (f r).rounds j h)
@@ -208,16 +228,19 @@ take_nil zero = refl
 take_nil (suc i) = refl
 
 pub moment_past : (f : Family) (given : ℕ → List ℕ) (j i r : ℕ) → length (f r).rounds ≤ j → moment f given j i r ≡ lock_step f given j r
-moment_past f given j i r h = ap (λ xs. wrote_all (messages f given j r) (lock_step f given j r) xs (lock_step f given j r)) (ap (take i) (actions_past f j r h) ∙ take_nil i)
+moment_past f given j i r h =
+    ap (λ xs. wrote_all (messages f given j r) (lock_step f given j r) xs (lock_step f given j r)) (ap (take i) (actions_past f j r h) ∙ take_nil i)
 
 -- on what a round rests
-wrote_agrees : (ms ns : ℕ → List ℕ) (mine other buf cur : List ℕ) (a : Action) → ((q : ℕ) → IsRecvOf a q → ms q ≡ ns q) → mine ≡ other → buf ≡ cur → wrote ms mine a buf ≡ wrote ns other a cur
+wrote_agrees : (ms ns : ℕ → List ℕ) (mine other buf cur : List ℕ) (a : Action) → ((q : ℕ) → IsRecvOf a q → ms q ≡ ns q)
+    → mine ≡ other → buf ≡ cur → wrote ms mine a buf ≡ wrote ns other a cur
 wrote_agrees ms ns mine other buf cur (Send to from) h e s = s
 wrote_agrees ms ns mine other buf cur (Copy from into) h e s = cc
 wrote_agrees ms ns mine other buf cur (Combine op ty left right into) h e s = cc
 wrote_agrees ms ns mine other buf cur (Recv of into) h e s = let m : ms of ≡ ns of = h of refl in cc
 
-wrote_all_agrees : (ms ns : ℕ → List ℕ) (mine other buf cur : List ℕ) (xs : List Action) → ((q : ℕ) → Receives xs q → ms q ≡ ns q) → mine ≡ other → buf ≡ cur → wrote_all ms mine xs buf ≡ wrote_all ns other xs cur
+wrote_all_agrees : (ms ns : ℕ → List ℕ) (mine other buf cur : List ℕ) (xs : List Action)
+    → ((q : ℕ) → Receives xs q → ms q ≡ ns q) → mine ≡ other → buf ≡ cur → wrote_all ms mine xs buf ≡ wrote_all ns other xs cur
 wrote_all_agrees ms ns mine other buf cur [] h e s = s
 wrote_all_agrees ms ns mine other buf cur (a ∷ xs) h e s =
     wrote_all_agrees ms ns mine other (wrote ms mine a buf) (wrote ns other a cur) xs (λ q t. h q (inr t)) e
@@ -228,11 +251,14 @@ pub lock_step_agrees : (f : Family) (xs ys : ℕ → List ℕ) (j r : ℕ) → (
 lock_step_agrees f xs ys zero r h = ap (λ b. laid_in (f r) b) (h r refl)
 lock_step_agrees f xs ys (suc j) r h =
     let own : lock_step f xs j r ≡ lock_step f ys j r = lock_step_agrees f xs ys j r (λ p t. h p (inl t)) in
-    wrote_all_agrees (messages f xs j r) (messages f ys j r) (lock_step f xs j r) (lock_step f ys j r) (lock_step f xs j r) (lock_step f ys j r) (actions_at f j r)
+    wrote_all_agrees (messages f xs j r) (messages f ys j r) (lock_step f xs j r) (lock_step f ys j r) (lock_step f xs j r)
+    (lock_step f ys j r) (actions_at f j r)
     (λ q t. ap (λ b. sent r (actions_at f j q) b) (lock_step_agrees f xs ys j q (λ p s. h p (inr (q, t, s))))) own own
 
-pub moment_agrees : (f : Family) (xs ys : ℕ → List ℕ) (j i r : ℕ) → ((p : ℕ) → Heard f j r p → xs p ≡ ys p) → ((q p : ℕ) → Receives (take i (actions_at f j r)) q → Heard f j q p → xs p ≡ ys p) → moment f xs j i r ≡ moment f ys j i r
+pub moment_agrees : (f : Family) (xs ys : ℕ → List ℕ) (j i r : ℕ) → ((p : ℕ) → Heard f j r p → xs p ≡ ys p)
+    → ((q p : ℕ) → Receives (take i (actions_at f j r)) q → Heard f j q p → xs p ≡ ys p) → moment f xs j i r ≡ moment f ys j i r
 moment_agrees f xs ys j i r h t =
     let own : lock_step f xs j r ≡ lock_step f ys j r = lock_step_agrees f xs ys j r h in
-    wrote_all_agrees (messages f xs j r) (messages f ys j r) (lock_step f xs j r) (lock_step f ys j r) (lock_step f xs j r) (lock_step f ys j r) (take i (actions_at f j r))
+    wrote_all_agrees (messages f xs j r) (messages f ys j r) (lock_step f xs j r) (lock_step f ys j r) (lock_step f xs j r)
+    (lock_step f ys j r) (take i (actions_at f j r))
     (λ q s. ap (λ b. sent r (actions_at f j q) b) (lock_step_agrees f xs ys j q (λ p u. t q p s u))) own own

@@ -1,5 +1,6 @@
 -- from the heart to the collective's value
-use Rattle.std.proofs.Common.{◌≡◌, ℕ, zero, suc, ◌+◌, ◌<◌, ◌≤◌, ◌⊎◌, inl, inr, List, [], ◌∷◌, length, get_or, replicate, unwrap_or, Option, Some, None, refl, sym, ap, subst, ◌∙◌, arith}
+use Rattle.std.proofs.Common.{◌≡◌, ℕ, zero, suc, ◌+◌, ◌<◌, ◌≤◌, ◌⊎◌, inl, inr, List, [], ◌∷◌, length, get_or, replicate, unwrap_or, Option, Some}
+use Rattle.std.proofs.Common.{None, refl, sym, ap, subst, ◌∙◌, arith}
 use Rattle.std.proofs.lemmas.Bool.{cases_lt}
 use Rattle.std.proofs.lemmas.List.{get_or-replicate, get_or_past, length-replicate}
 use Rattle.std.specs.List.{AllByRecursion}
@@ -56,7 +57,8 @@ filled_bytes n f w t r = go (w.given r) refl
     go (Some bytes) e = t.bytes r bytes e
 
 -- of a world on the track
-pub value_held : (sig : Signature) (n : ℕ) (f : Family) → Serves sig n f → (w : World) → Tracks n f w → (r : ℕ) (p : Progress) → w.progress r ≡ Some p → p.round ≡ length (f r).rounds → HoldsValue sig n f w r p
+pub value_held : (sig : Signature) (n : ℕ) (f : Family) → Serves sig n f → (w : World) → Tracks n f w → (r : ℕ) (p : Progress)
+    → w.progress r ≡ Some p → p.round ≡ length (f r).rounds → HoldsValue sig n f w r p
 value_held sig n f serves w t r p e i =
     let low : r < n = (t.members r p e).member in
     let is = (holds n f serves.lawful w t).results r p e i in
@@ -64,13 +66,17 @@ value_held sig n f serves w t r p e i =
       value_is = is.0
           ∙ (ap (λ b. read_of b (f r).output)
           (lock_step_agrees f (filled f w.given) (row_of (listing (filled f w.given) 0 n)) (length (f r).rounds) r
-          (λ s h. let m : s < n = heard_member n f serves.lawful (length (f r).rounds) r s low h in sym (row_listing (filled f w.given) 0 n s m ∙ ap (filled f w.given) (let z : 0 + s ≡ s = omega arith in z))))
+          (λ s h. let m : s < n =
+          heard_member n f serves.lawful (length (f r).rounds) r s low h in sym
+          (row_listing (filled f w.given) 0 n s m ∙ ap (filled f w.given) (let z : 0 + s ≡ s = omega arith in z))))
           ∙ serves.has_value (listing (filled f w.given) 0 n)
           (record {
             each = length_listing (filled f w.given) 0 n;
-            long = λ s h. ap length (row_listing (filled f w.given) 0 n s h ∙ ap (filled f w.given) (let z : 0 + s ≡ s = omega arith in z)) ∙ (filled_fits n f w t s h ∙ serves.takes_given s h);
+            long = λ s h. ap length (row_listing (filled f w.given) 0 n s h ∙ ap (filled f w.given) (let z : 0 + s ≡ s = omega arith in z))
+                ∙ (filled_fits n f w t s h ∙ serves.takes_given s h);
           })
-          (λ s h. subst AreBytes (sym (row_listing (filled f w.given) 0 n s h ∙ ap (filled f w.given) (let z : 0 + s ≡ s = omega arith in z))) (filled_bytes n f w t s)) r low);
+          (λ s h. subst AreBytes (sym (row_listing (filled f w.given) 0 n s h
+          ∙ ap (filled f w.given) (let z : 0 + s ≡ s = omega arith in z))) (filled_bytes n f w t s)) r low);
       needed = λ s k. is.1 s (serves.hears r s low k);
     }
 

@@ -1,5 +1,6 @@
 -- every step keeps each member and each message on its track
-use Rattle.std.proofs.Common.{◌≡◌, ℕ, zero, suc, ◌<◌, ◌≢◌, ◌⊎◌, inl, inr, List, [], take, length, replicate, unwrap_or, Option, Some, None, refl, sym, ap, subst, ◌∙◌, arith}
+use Rattle.std.proofs.Common.{◌≡◌, ℕ, zero, suc, ◌<◌, ◌≢◌, ◌⊎◌, inl, inr, List, [], take, length, replicate, unwrap_or, Option, Some, None, refl, sym}
+use Rattle.std.proofs.Common.{ap, subst, ◌∙◌, arith}
 use Rattle.std.proofs.lemmas.Option.{none-some, same_Some, slice_get_within}
 use Rattle.std.proofs.lemmas.List.{length-replicate, take_all}
 use Rattle.coll_sched.specs.declared.region.Region.{Region}
@@ -7,15 +8,19 @@ use Rattle.coll_kinds.specs.declared.operation.Op.{Op}
 use Rattle.coll_kinds.specs.declared.datatype.Datatype.{Datatype}
 use Rattle.coll_sched.specs.declared.action.Action.{Action}
 use Rattle.coll_sched.specs.declared.action.Action.TheVariants.{Send, Copy, Combine, Recv}
-use Rattle.coll_sched.specs.Common.{read_of, written, wrote, IsLocal, Family, read_at, actions_at, laid_in, lock_step, messages, result_at, IsRecvOf, Receives, Heard, IsLawful, Progress, World, empty, put_mail, filled, joined, acted, turned, IsNext, send, compute, receive, Tracks}
+use Rattle.coll_sched.specs.Common.{read_of, written, wrote, IsLocal, Family, read_at, actions_at, laid_in, lock_step, messages, result_at, IsRecvOf}
+use Rattle.coll_sched.specs.Common.{Receives, Heard, IsLawful, Progress, World, empty, put_mail, filled, joined, acted, turned, IsNext, send, compute}
+use Rattle.coll_sched.specs.Common.{receive, Tracks}
 use Rattle.coll_kinds.specs.Common.{AreBytes, put}
 use Rattle.coll_sched.specs.Families.{sent}
 use Rattle.coll_sched.specs.Worlds.{left, Step, join, turn, leave, Reached, begun, stepped}
 use Rattle.coll_sched.specs.Tracks.{moment, OnTrack, InTransit}
 use Rattle.coll_sched.specs.Heart.{Holds, Heart}
-use Rattle.coll_sched.proofs.Rounds.{round_at, MessageFits, message_fits, length_lock_step, length_moment, GivenFits, out_link_at, reads_at_moment, moment_next, moment_end, moment_past, lock_step_agrees, moment_agrees}
+use Rattle.coll_sched.proofs.Rounds.{round_at, MessageFits, message_fits, length_lock_step, length_moment, GivenFits, out_link_at, reads_at_moment}
+use Rattle.coll_sched.proofs.Rounds.{moment_next, moment_end, moment_past, lock_step_agrees, moment_agrees}
 use Rattle.coll_sched.proofs.Each.{all_at}
-use Rattle.coll_sched.proofs.Counts.{none_in_transit, none_standing, standing_counts, put_same, put_other, put_cases, put_mail_cases, at_key, receives_next, balanced_join, balanced_turn, balanced_leave, balanced_compute, balanced_send, balanced_receive}
+use Rattle.coll_sched.proofs.Counts.{none_in_transit, none_standing, standing_counts, put_same, put_other, put_cases, put_mail_cases, at_key}
+use Rattle.coll_sched.proofs.Counts.{receives_next, balanced_join, balanced_turn, balanced_leave, balanced_compute, balanced_send, balanced_receive}
 
 abbrev Given : Type 0
 Given = ℕ → Option (List ℕ)
@@ -42,7 +47,8 @@ module _ (f : Family) (given other : ℕ → Option (List ℕ)) (ext : Extends g
     index_in = t.index_in;
     heard = λ s h. still s (t.heard s h);
     received = λ q s a h. still s (t.received q s a h);
-    buffer = t.buffer ∙ moment_agrees f (filled f given) (filled f other) p.round p.index r (λ s h. same_filled s (t.heard s h)) (λ q s a h. same_filled s (t.received q s a h));
+    buffer = t.buffer ∙ moment_agrees f (filled f given) (filled f other) p.round p.index r (λ s h. same_filled s (t.heard s h))
+        (λ q s a h. same_filled s (t.received q s a h));
   }
 
   pub transit_extends : (q r j : ℕ) (bytes : List ℕ) → InTransit f given q r j bytes → InTransit f other q r j bytes
@@ -58,7 +64,9 @@ filled_fits n f w t r low = go (w.given r) refl
     go None e = ap (λ o. length (unwrap_or o (replicate (f r).input.len 0))) e ∙ length-replicate {A = ℕ} (f r).input.len 0
     go (Some bytes) e = ap (λ o. length (unwrap_or o (replicate (f r).input.len 0))) e ∙ t.lengths r bytes e
 
-members_put : (n : ℕ) (f : Family) (given : ℕ → Option (List ℕ)) (progress : ℕ → Option Progress) (r : ℕ) (o : Option Progress) → ((p : Progress) → o ≡ Some p → OnTrack n f given r p) → ((s : ℕ) (p : Progress) → progress s ≡ Some p → OnTrack n f given s p) → (s : ℕ) (p : Progress) → put progress r o s ≡ Some p → OnTrack n f given s p
+members_put : (n : ℕ) (f : Family) (given : ℕ → Option (List ℕ)) (progress : ℕ → Option Progress) (r : ℕ) (o : Option Progress)
+    → ((p : Progress) → o ≡ Some p → OnTrack n f given r p)
+    → ((s : ℕ) (p : Progress) → progress s ≡ Some p → OnTrack n f given s p) → (s : ℕ) (p : Progress) → put progress r o s ≡ Some p → OnTrack n f given s p
 members_put n f given progress r o new old s p e = go (put_cases progress r o s (Some p) e)
   where
     go : ((s ≡ r) × (o ≡ Some p)) ⊎ ((s ≢ r) × (progress s ≡ Some p)) → OnTrack n f given s p
@@ -84,7 +92,8 @@ not_begun n f w r t none = go (w.progress r) refl
     go None e = e
     go (Some p) e = absurd ((t.members r p e).heard r (heard_self f p.round r) none)
 
-pub tracks_join : (n : ℕ) (f : Family) (w : World) (r : ℕ) (bytes : List ℕ) → r < n → w.given r ≡ None → length bytes ≡ (f r).input.len → AreBytes bytes → Tracks n f w → Tracks n f (joined f w r bytes)
+pub tracks_join : (n : ℕ) (f : Family) (w : World) (r : ℕ) (bytes : List ℕ) → r < n → w.given r ≡ None
+    → length bytes ≡ (f r).input.len → AreBytes bytes → Tracks n f w → Tracks n f (joined f w r bytes)
 tracks_join n f w r bytes low none len are t = record {
   lengths = λ s bs e. lens s bs (put_cases w.given r (Some bytes) s (Some bs) e);
   bytes = λ s bs e. all_bytes s bs (put_cases w.given r (Some bytes) s (Some bs) e);
@@ -116,7 +125,8 @@ tracks_join n f w r bytes low none len are t = record {
       buffer = ap (λ o. laid_in (f r) (unwrap_or o (replicate (f r).input.len 0))) (sym (put_same w.given r (Some bytes)));
     }
 
-pub tracks_turn : (n : ℕ) (f : Family) (w : World) (r : ℕ) (p : Progress) → w.progress r ≡ Some p → p.index ≡ length (actions_at f p.round r) → p.round < length (f r).rounds → Tracks n f w → Tracks n f (turned w r p)
+pub tracks_turn : (n : ℕ) (f : Family) (w : World) (r : ℕ) (p : Progress) → w.progress r ≡ Some p
+    → p.index ≡ length (actions_at f p.round r) → p.round < length (f r).rounds → Tracks n f w → Tracks n f (turned w r p)
 tracks_turn n f w r p e i low t = record {
   lengths = t.lengths;
   bytes = t.bytes;
@@ -146,7 +156,8 @@ tracks_turn n f w r p e i low t = record {
       buffer = old.buffer ∙ (ap (λ k. moment f (filled f w.given) p.round k r) i ∙ moment_end f (filled f w.given) p.round r);
     }
 
-pub tracks_leave : (n : ℕ) (f : Family) (w : World) (r : ℕ) (p : Progress) → w.progress r ≡ Some p → p.round ≡ length (f r).rounds → Tracks n f w → Tracks n f (left w r)
+pub tracks_leave : (n : ℕ) (f : Family) (w : World) (r : ℕ) (p : Progress) → w.progress r ≡ Some p
+    → p.round ≡ length (f r).rounds → Tracks n f w → Tracks n f (left w r)
 tracks_leave n f w r p e i t = record {
   lengths = t.lengths;
   bytes = t.bytes;
@@ -156,7 +167,9 @@ tracks_leave n f w r p e i t = record {
 }
 
 -- one action on: what is received besides, and the buffer
-acted_track : (n : ℕ) (f : Family) (w : World) (r : ℕ) (p : Progress) (a : Action) (buf : List ℕ) → Tracks n f w → IsNext f w r p a → ((q s : ℕ) → IsRecvOf a q → Heard f p.round q s → w.given s ≢ None) → buf ≡ moment f (filled f w.given) p.round (suc p.index) r → OnTrack n f w.given r (record { round = p.round; index = suc p.index; buf = buf })
+acted_track : (n : ℕ) (f : Family) (w : World) (r : ℕ) (p : Progress) (a : Action) (buf : List ℕ) → Tracks n f w
+    → IsNext f w r p a → ((q s : ℕ) → IsRecvOf a q → Heard f p.round q s → w.given s ≢ None)
+    → buf ≡ moment f (filled f w.given) p.round (suc p.index) r → OnTrack n f w.given r (record { round = p.round; index = suc p.index; buf = buf })
 acted_track n f w r p a buf t next new e = record {
   member = old.member;
   round_in = old.round_in;
@@ -175,7 +188,8 @@ acted_track n f w r p a buf t next new e = record {
 
 module _ (n : ℕ) (f : Family) (lawful : IsLawful n f) (w : World) (t : Tracks n f w) (r : ℕ) (p : Progress) where
   -- one action over the buffer as it stands, with the messages of lock-step
-  next_moment : (a : Action) → IsNext f w r p a → wrote (messages f (filled f w.given) p.round r) p.buf a p.buf ≡ moment f (filled f w.given) p.round (suc p.index) r
+  next_moment : (a : Action) → IsNext f w r p a
+      → wrote (messages f (filled f w.given) p.round r) p.buf a p.buf ≡ moment f (filled f w.given) p.round (suc p.index) r
   next_moment a next =
       let old : OnTrack n f w.given r p = t.members r p next.0 in
       ap (λ b. wrote (messages f (filled f w.given) p.round r) b a b) old.buffer
@@ -187,7 +201,8 @@ module _ (n : ℕ) (f : Family) (lawful : IsLawful n f) (w : World) (t : Tracks 
     bytes = t.bytes;
     members = members_put n f w.given w.progress r (Some (record { round = p.round; index = suc p.index; buf = wrote (λ q. []) p.buf a p.buf }))
         (λ q k. at_some (OnTrack n f w.given r) (record { round = p.round; index = suc p.index; buf = wrote (λ q. []) p.buf a p.buf }) q
-        (acted_track n f w r p a (wrote (λ q. []) p.buf a p.buf) t next (λ q s h k. absurd (no_recv a loc q h)) (no_message a loc ∙ next_moment a next)) k) t.members;
+        (acted_track n f w r p a (wrote (λ q. []) p.buf a p.buf) t next (λ q s h k. absurd (no_recv a loc q h)) (no_message a loc ∙ next_moment a next)) k)
+        t.members;
     in_transit = t.in_transit;
     balanced = balanced_compute f w r p a next (wrote (λ q. []) p.buf a p.buf) w.mail loc (λ q s j. refl) t.balanced;
   }
@@ -204,7 +219,8 @@ module _ (n : ℕ) (f : Family) (lawful : IsLawful n f) (w : World) (t : Tracks 
       no_message (Combine op ty x y into) l = refl
       no_message (Recv of into) l = absurd l
 
-  pub tracks_send : (to : ℕ) (from : Region) → IsNext f w r p (Send to from) → Tracks n f (acted w r p p.buf (put_mail w.mail r to p.round (Some (read_of p.buf from))))
+  pub tracks_send : (to : ℕ) (from : Region) → IsNext f w r p (Send to from)
+      → Tracks n f (acted w r p p.buf (put_mail w.mail r to p.round (Some (read_of p.buf from))))
   tracks_send to from next = record {
     lengths = t.lengths;
     bytes = t.bytes;
@@ -212,7 +228,8 @@ module _ (n : ℕ) (f : Family) (lawful : IsLawful n f) (w : World) (t : Tracks 
         (λ q k. at_some (OnTrack n f w.given r) (record { round = p.round; index = suc p.index; buf = p.buf }) q
         (acted_track n f w r p (Send to from) p.buf t next (λ q s h k. absurd h) (next_moment (Send to from) next)) k) t.members;
     in_transit = λ q s j bs e. either q s j bs e (put_mail_cases w.mail r to p.round (Some (read_of p.buf from)) q s j);
-    balanced = balanced_send f w r p to from (read_of p.buf from) ((round_at (f r) (lawful.schedules r (t.members r p next.0).member) p.round).follows) next t.balanced;
+    balanced = balanced_send f w r p to from (read_of p.buf from)
+        ((round_at (f r) (lawful.schedules r (t.members r p next.0).member) p.round).follows) next t.balanced;
   }
     where
       message : InTransit f w.given r to p.round (read_of p.buf from)
@@ -221,17 +238,22 @@ module _ (n : ℕ) (f : Family) (lawful : IsLawful n f) (w : World) (t : Tracks 
           record {
             is = ap (λ b. read_of b from) old.buffer
                 ∙ ((reads_at_moment n f lawful (filled f w.given) (filled_fits n f w t) p.round p.index r (Send to from) old.member next.1).0
-                ∙ sym (ap (read_at (lock_step f (filled f w.given) p.round r)) (out_link_at (actions_at f p.round r) p.index to from ((round_at (f r) (lawful.schedules r old.member) p.round).follows) next.1)));
+                ∙ sym (ap (read_at (lock_step f (filled f w.given) p.round r))
+                (out_link_at (actions_at f p.round r) p.index to from ((round_at (f r) (lawful.schedules r old.member) p.round).follows) next.1)));
             heard = old.heard;
           }
 
       either : (q s j : ℕ) (bs : List ℕ) → put_mail w.mail r to p.round (Some (read_of p.buf from)) q s j ≡ Some bs
-          → ((q ≡ r) × (s ≡ to) × (j ≡ p.round) × (put_mail w.mail r to p.round (Some (read_of p.buf from)) q s j ≡ Some (read_of p.buf from))) ⊎ (((q ≡ r) × (s ≡ to) × (j ≡ p.round) → ⊥) × (put_mail w.mail r to p.round (Some (read_of p.buf from)) q s j ≡ w.mail q s j))
+          → ((q ≡ r) × (s ≡ to) × (j ≡ p.round) × (put_mail w.mail r to p.round (Some (read_of p.buf from)) q s j ≡ Some (read_of p.buf from)))
+          ⊎ (((q ≡ r) × (s ≡ to) × (j ≡ p.round) → ⊥) × (put_mail w.mail r to p.round (Some (read_of p.buf from)) q s j ≡ w.mail q s j))
           → InTransit f w.given q s j bs
-      either q s j bs e (inl k) = at_key (λ q s j. InTransit f w.given q s j bs) q s j r to p.round k.0 k.1 k.2 (at_some (InTransit f w.given r to p.round) (read_of p.buf from) bs message (sym k.3 ∙ e))
+      either q s j bs e (inl k) =
+          at_key (λ q s j. InTransit f w.given q s j bs) q s j r to p.round k.0 k.1 k.2
+          (at_some (InTransit f w.given r to p.round) (read_of p.buf from) bs message (sym k.3 ∙ e))
       either q s j bs e (inr k) = t.in_transit q s j bs (sym k.1 ∙ e)
 
-  pub tracks_receive : (of : ℕ) (into : Region) (bytes : List ℕ) → IsNext f w r p (Recv of into) → w.mail of r p.round ≡ Some bytes → Tracks n f (acted w r p (written p.buf into bytes) (put_mail w.mail of r p.round None))
+  pub tracks_receive : (of : ℕ) (into : Region) (bytes : List ℕ) → IsNext f w r p (Recv of into)
+      → w.mail of r p.round ≡ Some bytes → Tracks n f (acted w r p (written p.buf into bytes) (put_mail w.mail of r p.round None))
   tracks_receive of into bytes next stands = record {
     lengths = t.lengths;
     bytes = t.bytes;
@@ -248,7 +270,8 @@ module _ (n : ℕ) (f : Family) (lawful : IsLawful n f) (w : World) (t : Tracks 
       message = t.in_transit of r p.round bytes stands
 
       either : (q s j : ℕ) (bs : List ℕ) → put_mail w.mail of r p.round None q s j ≡ Some bs
-          → ((q ≡ of) × (s ≡ r) × (j ≡ p.round) × (put_mail w.mail of r p.round None q s j ≡ None)) ⊎ (((q ≡ of) × (s ≡ r) × (j ≡ p.round) → ⊥) × (put_mail w.mail of r p.round None q s j ≡ w.mail q s j))
+          → ((q ≡ of) × (s ≡ r) × (j ≡ p.round) × (put_mail w.mail of r p.round None q s j ≡ None))
+          ⊎ (((q ≡ of) × (s ≡ r) × (j ≡ p.round) → ⊥) × (put_mail w.mail of r p.round None q s j ≡ w.mail q s j))
           → InTransit f w.given q s j bs
       either q s j bs e (inl k) = absurd (none-some bs (sym k.3 ∙ e))
       either q s j bs e (inr k) = t.in_transit q s j bs (sym k.1 ∙ e)
@@ -269,22 +292,29 @@ pub holds : (n : ℕ) (f : Family) → IsLawful n f → (w : World) → Tracks n
 holds n f lawful w t = record {
   results = λ r p e i. (result r p e i, λ s h. (t.members r p e).heard s (subst (λ k. Heard f k r s) (sym i) h));
   operands = λ r p op ty a b into next. both_read r p op ty a b into next;
-  sizes = λ r p e. ap length (t.members r p e).buffer ∙ length_moment n f lawful (filled f w.given) (filled_fits n f w t) p.round p.index r (t.members r p e).member;
+  sizes = λ r p e. ap length (t.members r p e).buffer
+      ∙ length_moment n f lawful (filled f w.given) (filled_fits n f w t) p.round p.index r (t.members r p e).member;
   takes = λ r p of into bytes next e. fits r p of into bytes next e;
-  free = λ r p to from next. none_standing (w.mail r to p.round) (none_in_transit f w r p to from ((round_at (f r) (lawful.schedules r (t.members r p next.0).member) p.round).follows) next t.balanced);
+  free = λ r p to from next. none_standing (w.mail r to p.round)
+      (none_in_transit f w r p to from ((round_at (f r) (lawful.schedules r (t.members r p next.0).member) p.round).follows) next t.balanced);
   standing_is = λ q r j bytes low e. standing_counts f w q r j bytes ((round_at (f q) (lawful.schedules q low) j).follows) t.balanced e;
 }
   where
-    fits : (r : ℕ) (p : Progress) (of : ℕ) (into : Region) (bytes : List ℕ) → IsNext f w r p (Recv of into) → w.mail of r p.round ≡ Some bytes → length bytes ≡ into.len
+    fits : (r : ℕ) (p : Progress) (of : ℕ) (into : Region) (bytes : List ℕ) → IsNext f w r p (Recv of into)
+        → w.mail of r p.round ≡ Some bytes → length bytes ≡ into.len
     fits r p of into bytes next e =
         ap length (t.in_transit of r p.round bytes e).is
         ∙ all_at (MessageFits (messages f (filled f w.given) p.round r)) (actions_at f p.round r) p.index (Recv of into)
-        (message_fits n f lawful (filled f w.given) p.round r (t.members r p next.0).member (λ q h. length_lock_step n f lawful (filled f w.given) (filled_fits n f w t) p.round q h)) next.1
+        (message_fits n f lawful (filled f w.given) p.round r (t.members r p next.0).member
+        (λ q h. length_lock_step n f lawful (filled f w.given) (filled_fits n f w t) p.round q h)) next.1
 
     result : (r : ℕ) (p : Progress) → w.progress r ≡ Some p → p.round ≡ length (f r).rounds → read_of p.buf (f r).output ≡ result_at f (filled f w.given) r
-    result r p e i = ap (λ b. read_of b (f r).output) ((t.members r p e).buffer ∙ (moment_past f (filled f w.given) p.round p.index r (omega arith) ∙ ap (λ j. lock_step f (filled f w.given) j r) i))
+    result r p e i =
+        ap (λ b. read_of b (f r).output)
+        ((t.members r p e).buffer ∙ (moment_past f (filled f w.given) p.round p.index r (omega arith) ∙ ap (λ j. lock_step f (filled f w.given) j r) i))
 
-    both_read : (r : ℕ) (p : Progress) (op : Op) (ty : Datatype) (a b into : Region) → IsNext f w r p (Combine op ty a b into) → (read_of p.buf a ≡ read_of (lock_step f (filled f w.given) p.round r) a) × (read_of p.buf b ≡ read_of (lock_step f (filled f w.given) p.round r) b)
+    both_read : (r : ℕ) (p : Progress) (op : Op) (ty : Datatype) (a b into : Region) → IsNext f w r p (Combine op ty a b into)
+        → (read_of p.buf a ≡ read_of (lock_step f (filled f w.given) p.round r) a) × (read_of p.buf b ≡ read_of (lock_step f (filled f w.given) p.round r) b)
     both_read r p op ty a b into next =
         let old : OnTrack n f w.given r p = t.members r p next.0 in
         let same = reads_at_moment n f lawful (filled f w.given) (filled_fits n f w t) p.round p.index r (Combine op ty a b into) old.member next.1 in

@@ -1,12 +1,14 @@
 -- worlds that agree everywhere, several ends of rounds at once, and an instance that all have left
-use Rattle.std.proofs.Common.{◌≡◌, ℕ, zero, suc, ◌+◌, ◌<◌, ◌≤◌, ◌≢◌, ◌⊎◌, inl, inr, eqb, List, [], ◌∷◌, length, Option, Some, None, refl, sym, ap, subst, ◌∙◌, arith, eq-eqb, ne_eqb, add-zero, add-suc}
+use Rattle.std.proofs.Common.{◌≡◌, ℕ, zero, suc, ◌+◌, ◌<◌, ◌≤◌, ◌≢◌, ◌⊎◌, inl, inr, eqb, List, [], ◌∷◌, length, Option, Some, None, refl, sym, ap}
+use Rattle.std.proofs.Common.{subst, ◌∙◌, arith, eq-eqb, ne_eqb, add-zero, add-suc}
 use Rattle.std.proofs.lemmas.Option.{none-some}
 use Rattle.std.proofs.lemmas.Bool.{cases_eq, cases_lt, cond-true, cond-false}
 use Rattle.std.specs.List.{AllByRecursion}
 use Rattle.coll_sched.specs.declared.region.Region.{Region}
 use Rattle.coll_sched.specs.declared.action.Action.{Action}
 use Rattle.coll_sched.specs.declared.action.Action.TheVariants.{Send, Copy, Combine, Recv}
-use Rattle.coll_sched.specs.Common.{IsAmong, Follows, EachFollows, Family, actions_at, in_link, out_link, len_of, IsLawful, Progress, World, turned, send, compute, receive, outs, ins, total, done_by, done_at, standing, Tracks}
+use Rattle.coll_sched.specs.Common.{IsAmong, Follows, EachFollows, Family, actions_at, in_link, out_link, len_of, IsLawful, Progress, World, turned}
+use Rattle.coll_sched.specs.Common.{send, compute, receive, outs, ins, total, done_by, done_at, standing, Tracks}
 use Rattle.coll_kinds.specs.Puts.{put}
 use Rattle.coll_sched.specs.Worlds.{Reached, begun, stepped, Step, join, turn, leave}
 use Rattle.coll_sched.specs.Views.{Agrees, skipped, Skips, Empties}
@@ -20,7 +22,9 @@ tracks_agrees n f w v a t = record {
   bytes = λ r given e. t.bytes r given (sym (a.given r) ∙ e);
   members = λ r p e. track_extends f w.given v.given (λ s h. a.given s) n r p (t.members r p (sym (a.progress r) ∙ e));
   in_transit = λ q r j bytes e. transit_extends f w.given v.given (λ s h. a.given s) q r j bytes (t.in_transit q r j bytes (sym (a.mail q r j) ∙ e));
-  balanced = balanced_same f w v a.mail (λ j s. ap (λ o. done_by o (v.given s) j (actions_at f j s)) (a.progress s) ∙ ap (λ g. done_by (w.progress s) g j (actions_at f j s)) (a.given s)) t.balanced;
+  balanced = balanced_same f w v a.mail
+      (λ j s. ap (λ o. done_by o (v.given s) j (actions_at f j s)) (a.progress s) ∙ ap (λ g. done_by (w.progress s) g j (actions_at f j s)) (a.given s))
+      t.balanced;
 }
 
 put_put : {X : Type 0} (f : ℕ → X) (k : ℕ) (u v : X) (i : ℕ) → put f k v i ≡ put (put f k u) k v i
@@ -32,16 +36,24 @@ put_put f k u v i = go (cases_eq i k)
 
 pub skips : Skips
 skips n f w r p zero t e i low none =
-    tracks_agrees n f (turned w r p) (skipped w r p (suc (p.round + 0))) (record { given = λ s. refl; progress = λ s. ap (λ k. put w.progress r (Some (record { round = suc k; index = 0; buf = p.buf })) s) (add-zero p.round); mail = λ q s j. refl })
+    tracks_agrees n f (turned w r p) (skipped w r p (suc (p.round + 0)))
+    (record {
+      given = λ s. refl;
+      progress =
+          λ s. ap (λ k. put w.progress r (Some (record { round = suc k; index = 0; buf = p.buf })) s) (add-zero p.round);
+      mail = λ q s j. refl;
+    })
     (tracks_turn n f w r p e i (omega arith) t)
 skips n f w r p (suc d) t e i low none =
     let before : Tracks n f (skipped w r p (suc (p.round + d))) = skips n f w r p d t e i (omega arith) (λ j x y. none j x (omega arith)) in
     let here : actions_at f (suc (p.round + d)) r ≡ [] = none (suc (p.round + d)) (omega arith) (omega arith) in
-    tracks_agrees n f (turned (skipped w r p (suc (p.round + d))) r (record { round = suc (p.round + d); index = 0; buf = p.buf })) (skipped w r p (suc (p.round + suc d)))
+    tracks_agrees n f (turned (skipped w r p (suc (p.round + d))) r
+    (record { round = suc (p.round + d); index = 0; buf = p.buf })) (skipped w r p (suc (p.round + suc d)))
     (record {
       given = λ s. refl;
       progress = λ s. ap (λ k. put w.progress r (Some (record { round = suc k; index = 0; buf = p.buf })) s) (add-suc p.round d)
-          ∙ put_put w.progress r (Some (record { round = suc (p.round + d); index = 0; buf = p.buf })) (Some (record { round = suc (suc (p.round + d)); index = 0; buf = p.buf })) s;
+          ∙ put_put w.progress r (Some (record { round = suc (p.round + d); index = 0; buf = p.buf }))
+          (Some (record { round = suc (suc (p.round + d)); index = 0; buf = p.buf })) s;
       mail = λ q s j. refl;
     })
     (tracks_turn n f (skipped w r p (suc (p.round + d))) r (record { round = suc (p.round + d); index = 0; buf = p.buf })
@@ -104,7 +116,8 @@ same_count (Some g) None h = absurd (none-some g.len (sym h))
 same_count (Some g) (Some k) h = refl
 
 -- who has joined and left has done all actions
-done_all : (n : ℕ) (f : Family) (w : World) → ((r : ℕ) → r < n → (w.given r ≢ None) × (w.progress r ≡ None)) → (j s : ℕ) → s < n → done_at f w j s ≡ actions_at f j s
+done_all : (n : ℕ) (f : Family) (w : World) → ((r : ℕ) → r < n → (w.given r ≢ None) × (w.progress r ≡ None)) → (j s : ℕ) → s < n
+    → done_at f w j s ≡ actions_at f j s
 done_all n f w gone j s low = ap (λ o. done_by o (w.given s) j (actions_at f j s)) (gone s low).1 ∙ gave (w.given s) (gone s low).0
   where
     gave : (o : Option (List ℕ)) → o ≢ None → done_by None o j (actions_at f j s) ≡ actions_at f j s
@@ -112,14 +125,18 @@ done_all n f w gone j s low = ap (λ o. done_by o (w.given s) j (actions_at f j 
     gave (Some bytes) h = refl
 
 -- between two members
-among : (n : ℕ) (f : Family) → IsLawful n f → (w : World) → Tracks n f w → ((r : ℕ) → r < n → (w.given r ≢ None) × (w.progress r ≡ None)) → (q r j : ℕ) → q < n → r < n → w.mail q r j ≡ None
+among : (n : ℕ) (f : Family) → IsLawful n f → (w : World) → Tracks n f w
+    → ((r : ℕ) → r < n → (w.given r ≢ None) × (w.progress r ≡ None)) → (q r j : ℕ) → q < n → r < n → w.mail q r j ≡ None
 among n f lawful w t gone q r j hq hr =
     let b : standing (w.mail q r j) + total (ins q) (done_at f w j r) ≡ total (outs r) (done_at f w j q) = t.balanced q r j in
     let e1 : total (ins q) (done_at f w j r) ≡ total (ins q) (actions_at f j r) = ap (total (ins q)) (done_all n f w gone j r hr) in
     let e2 : total (outs r) (done_at f w j q) ≡ total (outs r) (actions_at f j q) = ap (total (outs r)) (done_all n f w gone j q hq) in
-    let e3 : total (ins q) (actions_at f j r) ≡ one_if (in_link q (actions_at f j r)) = count_in q (actions_at f j r) ((round_at (f r) (lawful.schedules r hr) j).follows) in
-    let e4 : total (outs r) (actions_at f j q) ≡ one_if (out_link r (actions_at f j q)) = count_out r (actions_at f j q) ((round_at (f q) (lawful.schedules q hq) j).follows) in
-    let e5 : one_if (in_link q (actions_at f j r)) ≡ one_if (out_link r (actions_at f j q)) = same_count (in_link q (actions_at f j r)) (out_link r (actions_at f j q)) (lawful.aligned j r q hr hq) in
+    let e3 : total (ins q) (actions_at f j r) ≡ one_if (in_link q (actions_at f j r)) =
+    count_in q (actions_at f j r) ((round_at (f r) (lawful.schedules r hr) j).follows) in
+    let e4 : total (outs r) (actions_at f j q) ≡ one_if (out_link r (actions_at f j q)) =
+    count_out r (actions_at f j q) ((round_at (f q) (lawful.schedules q hq) j).follows) in
+    let e5 : one_if (in_link q (actions_at f j r)) ≡ one_if (out_link r (actions_at f j q)) =
+    same_count (in_link q (actions_at f j r)) (out_link r (actions_at f j q)) (lawful.aligned j r q hr hq) in
     none_standing (w.mail q r j) (omega arith)
 
 -- only members join
@@ -169,4 +186,5 @@ empties n f lawful w before gone q r j = go (cases_lt q n) (cases_lt r n)
     go : (q < n) ⊎ (n ≤ q) → (r < n) ⊎ (n ≤ r) → w.mail q r j ≡ None
     go (inl x) (inl y) = among n f lawful w t gone q r j x y
     go (inr x) y = sent_none (ap (total (outs r)) (stranger n f w before t j q x))
-    go (inl x) (inr y) = sent_none (ap (total (outs r)) (done_all n f w gone j q x) ∙ total_zero (outs r) (IsAmong n) (outs_among n r y) (actions_at f j q) (lawful.peers j q x))
+    go (inl x) (inr y) =
+        sent_none (ap (total (outs r)) (done_all n f w gone j q x) ∙ total_zero (outs r) (IsAmong n) (outs_among n r y) (actions_at f j q) (lawful.peers j q x))

@@ -5,7 +5,8 @@ ghost use Rattle.coll_sched.specs.Heart.{Heart, Finishes, FinishesHeard};
 ghost use Rattle.coll_sched.specs.Orders.{BoundsMembers, Commutes, RestsOnHeard};
 ghost use Rattle.coll_sched.specs.Points.{Ends, GoesOver, KeepsRemaining, LowersRemaining};
 ghost use Rattle.coll_sched.specs.Served.{HeldValue};
-ghost use Rattle.coll_sched.specs.Tracked.{ReachedTracks, StepsTrack, TrackedFinishes, TrackedFinishesHeard, TrackedHolds, TrackedValue, UnbegunRests, UnbegunTracks};
+ghost use Rattle.coll_sched.specs.Tracked.{ReachedTracks, StepsTrack, TrackedFinishes, TrackedFinishesHeard, TrackedHolds, TrackedValue};
+ghost use Rattle.coll_sched.specs.Tracked.{UnbegunRests, UnbegunTracks};
 ghost use Rattle.coll_sched.specs.Views.{Empties, Skips};
 ghost use Rattle.coll_sched.specs.Writers.{RestsOnWriters};
 

@@ -18,7 +18,8 @@ use Rattle.coll_trees.proofs.Spans.{span, span_all, associates}
 use Rattle.coll_trees.proofs.BinomialTreeReduceRounds.{length-reduce_tree_rounds, reduce_tree_rounds-moves, reduce_tree_rounds-combines, fold_hears, fold_holds}
 
 -- a family that begins with the tree to member 0 in buffers of two blocks
-module _ (op : Op) (ty : Datatype) (b n : ℕ) (f : Family) (rest : List Column) (is : (j r : ℕ) → actions_at f j r ≡ column_of (reduce_tree_rounds op ty b n 0 (depth n) ++ rest) j r) where
+module _ (op : Op) (ty : Datatype) (b n : ℕ) (f : Family) (rest : List Column)
+    (is : (j r : ℕ) → actions_at f j r ≡ column_of (reduce_tree_rounds op ty b n 0 (depth n) ++ rest) j r) where
   pub first_moves : (i r : ℕ) → i < depth n → actions_at f (i + i) r ≡ move_at b n (2 ^ i) r
   first_moves i r h =
       let l : length (reduce_tree_rounds op ty b n 0 (depth n)) ≡ depth n + depth n = length-reduce_tree_rounds op ty b n 0 (depth n) in
@@ -36,7 +37,9 @@ module _ (op : Op) (ty : Datatype) (b n : ℕ) (f : Family) (rest : List Column)
   pub later : (i r : ℕ) → actions_at f (depth n + depth n + i) r ≡ column_of rest i r
   later i r =
       is (depth n + depth n + i) r
-      ∙ ap (λ (c : Column). c r) (ap (λ l. column_of (reduce_tree_rounds op ty b n 0 (depth n) ++ rest) (l + i)) (sym (length-reduce_tree_rounds op ty b n 0 (depth n))) ∙ column-right (reduce_tree_rounds op ty b n 0 (depth n)) rest i)
+      ∙ ap (λ (c : Column). c r)
+      (ap (λ l. column_of (reduce_tree_rounds op ty b n 0 (depth n) ++ rest) (l + i)) (sym (length-reduce_tree_rounds op ty b n 0 (depth n)))
+      ∙ column-right (reduce_tree_rounds op ty b n 0 (depth n)) rest i)
 
   -- member 0 hears all
   pub first_hears : n ≤ 64 → (p : ℕ) → p < n → Heard f (depth n + depth n) 0 p
@@ -51,5 +54,6 @@ module _ (op : Op) (ty : Datatype) (b n : ℕ) (f : Family) (rest : List Column)
       read_of (lock_step f (row_of given) (depth n + depth n) 0) (front b) ≡ combination op ty given
   first_holds pos top lawful may given many laid rows room start =
       let enough : n ≤ 2 ^ depth n = depth_reaches n top in
-      fold_holds f op ty b n (depth n) first_moves first_combines lawful (associates op ty may) (row_of given) laid rows room start (depth n) 0 (omega arith) pos (zero-mod (2 ^ depth n))
+      fold_holds f op ty b n (depth n) first_moves first_combines lawful (associates op ty may) (row_of given) laid rows room
+      start (depth n) 0 (omega arith) pos (zero-mod (2 ^ depth n))
       ∙ (ap (span op ty (row_of given) 0) (let z : min (2 ^ depth n) (n - 0) ≡ length given = omega arith in z) ∙ span_all op ty given)

@@ -16,11 +16,13 @@ hop-sends b root r d e = cond-false (eqb root 0) [] _ (ne_eqb root 0 d) ∙ cond
 
 pub hop-gets : (b root r : ℕ) → root ≢ 0 → r ≢ 0 → r ≡ root → last_hop b root r ≡ Recv 0 (front b) ∷ []
 hop-gets b root r d n e =
-    cond-false (eqb root 0) [] _ (ne_eqb root 0 d) ∙ (cond-false (eqb r 0) (Send root (front b) ∷ []) _ (ne_eqb r 0 n) ∙ cond-true (eqb r root) (Recv 0 (front b) ∷ []) [] (eq-eqb r root e))
+    cond-false (eqb root 0) [] _ (ne_eqb root 0 d)
+    ∙ (cond-false (eqb r 0) (Send root (front b) ∷ []) _ (ne_eqb r 0 n) ∙ cond-true (eqb r root) (Recv 0 (front b) ∷ []) [] (eq-eqb r root e))
 
 hop-rests : (b root r : ℕ) → root ≢ 0 → r ≢ 0 → r ≢ root → last_hop b root r ≡ []
 hop-rests b root r d n e =
-    cond-false (eqb root 0) [] _ (ne_eqb root 0 d) ∙ (cond-false (eqb r 0) (Send root (front b) ∷ []) _ (ne_eqb r 0 n) ∙ cond-false (eqb r root) (Recv 0 (front b) ∷ []) [] (ne_eqb r root e))
+    cond-false (eqb root 0) [] _ (ne_eqb root 0 d)
+    ∙ (cond-false (eqb r 0) (Send root (front b) ∷ []) _ (ne_eqb r 0 n) ∙ cond-false (eqb r root) (Recv 0 (front b) ∷ []) [] (ne_eqb r root e))
 
 -- what a member does in it, with the facts
 data HopIs (b root r : ℕ) : List Action → Type 0 where
@@ -68,7 +70,8 @@ module _ (b n root : ℕ) (low : root < n) (size : ℕ) (room : b ≤ size) wher
   meets r p (first_sends x y) (other_rests u v w) = refl
   meets r p (root_gets x y z) (none_hops u) = absurd (x u)
   meets r p (root_gets x y z) (first_sends u v) =
-      ap len_of (cond-true (eqb 0 p) (Some (front b)) None (eq-eqb 0 p (sym v))) ∙ sym (ap len_of (cond-true (eqb root r) (Some (front b)) None (eq-eqb root r (sym z))))
+      ap len_of (cond-true (eqb 0 p) (Some (front b)) None (eq-eqb 0 p (sym v)))
+      ∙ sym (ap len_of (cond-true (eqb root r) (Some (front b)) None (eq-eqb root r (sym z))))
   meets r p (root_gets x y z) (root_gets u v w) = ap len_of (cond-false (eqb 0 p) (Some (front b)) None (ne_eqb 0 p (λ e. v (sym e))))
   meets r p (root_gets x y z) (other_rests u v w) = ap len_of (cond-false (eqb 0 p) (Some (front b)) None (ne_eqb 0 p (λ e. v (sym e))))
   meets r p (other_rests x y z) (none_hops u) = refl

@@ -1,5 +1,7 @@
 -- binomial tree, from all to member 0: the rounds are lawful, and in the end member 0 has heard all and holds the combination
-use Rattle.std.proofs.Common.{◌≡◌, ℕ, zero, suc, ◌+◌, ◌-◌, ◌*◌, ◌/◌, ◌%◌, ◌^◌, ◌<◌, ◌≤◌, ◌≢◌, ◌⊎◌, inl, inr, true, false, ◌&&◌, min, cond, eqb, ltb, List, [], ◌∷◌, length, Some, None, IsTrue, refl, sym, ap, subst, ◌∙◌, arith, eq-eqb, ne_eqb, eqb-true, lt-ltb, le-ltb, ltb-true, ltb-false, mod-eq_of_lt, pow-suc, pow_pos, count_by}
+use Rattle.std.proofs.Common.{◌≡◌, ℕ, zero, suc, ◌+◌, ◌-◌, ◌*◌, ◌/◌, ◌%◌, ◌^◌, ◌<◌, ◌≤◌, ◌≢◌, ◌⊎◌, inl, inr, true, false, ◌&&◌, min, cond, eqb, ltb}
+use Rattle.std.proofs.Common.{List, [], ◌∷◌, length, Some, None, IsTrue, refl, sym, ap, subst, ◌∙◌, arith, eq-eqb, ne_eqb, eqb-true, lt-ltb, le-ltb}
+use Rattle.std.proofs.Common.{ltb-true, ltb-false, mod-eq_of_lt, pow-suc, pow_pos, count_by}
 use Rattle.std.proofs.lemmas.Bool.{eqb-false, cond-true, cond-false, cases_eq, cases_lt, cases_Bool, and_from, and_parts, and_cases, and_right}
 use Rattle.std.proofs.lemmas.Nat.{div-add-mod'}
 use Rattle.std.proofs.lemmas.Nat.Gcd.{dvd_of_mod-eq-zero}
@@ -11,7 +13,8 @@ use Rattle.coll_kinds.specs.Common.{width, allowed}
 use Rattle.coll_ops.specs.Combinations.{combined}
 use Rattle.coll_ops.specs.Laws.{IsRow}
 use Rattle.coll_sched.specs.declared.action.Action.TheVariants.{Send, Combine, Recv}
-use Rattle.coll_sched.specs.Common.{read_of, front, behind, IsAmong, AllApart, writes, IsRound, has_peer, Family, actions_at, in_link, out_link, len_of, lock_step, Receives, Heard, IsLawful, is_send, is_recv}
+use Rattle.coll_sched.specs.Common.{read_of, front, behind, IsAmong, AllApart, writes, IsRound, has_peer, Family, actions_at, in_link, out_link}
+use Rattle.coll_sched.specs.Common.{len_of, lock_step, Receives, Heard, IsLawful, is_send, is_recv}
 use Rattle.coll_sched.proofs.Rounds.{GivenFits}
 use Rattle.coll_sched.proofs.Builders.{Has, round_held, round_kept, message_is}
 use Rattle.coll_trees.specs.declared.binomial_tree_reduce_step.ReduceStep.{ReduceStep}
@@ -48,14 +51,22 @@ role_is n r s = go (cases_Bool (eqb (r % (s + s)) s)) (cases_Bool (eqb (r % (s +
     far (inl h) e = absurd (eqb-false (r % (s + s)) 0 h e)
     far (inr h) e = ltb-false (r + s) n h
 
-    go : (eqb (r % (s + s)) s ≡ true) ⊎ (eqb (r % (s + s)) s ≡ false) → ((eqb (r % (s + s)) 0 && ltb (r + s) n) ≡ true) ⊎ ((eqb (r % (s + s)) 0 && ltb (r + s) n) ≡ false) → ReduceStepIs n r s (reduce_step n r s)
-    go (inl h) x = subst (ReduceStepIs n r s) (sym (cond-true (eqb (r % (s + s)) s) SendsToParent (cond (eqb (r % (s + s)) 0 && ltb (r + s) n) ReceivesFromChild Rests) h)) (is_gives (eqb-true (r % (s + s)) s h))
+    go : (eqb (r % (s + s)) s ≡ true) ⊎ (eqb (r % (s + s)) s ≡ false)
+        → ((eqb (r % (s + s)) 0 && ltb (r + s) n) ≡ true) ⊎ ((eqb (r % (s + s)) 0 && ltb (r + s) n) ≡ false) → ReduceStepIs n r s (reduce_step n r s)
+    go (inl h) x =
+        subst (ReduceStepIs n r s)
+        (sym (cond-true (eqb (r % (s + s)) s) SendsToParent (cond (eqb (r % (s + s)) 0 && ltb (r + s) n) ReceivesFromChild Rests) h))
+        (is_gives (eqb-true (r % (s + s)) s h))
     go (inr h) (inl x) =
         let parts = and_parts (eqb (r % (s + s)) 0) (ltb (r + s) n) x in
-        subst (ReduceStepIs n r s) (sym (cond-false (eqb (r % (s + s)) s) SendsToParent (cond (eqb (r % (s + s)) 0 && ltb (r + s) n) ReceivesFromChild Rests) h ∙ cond-true (eqb (r % (s + s)) 0 && ltb (r + s) n) ReceivesFromChild Rests x))
+        subst (ReduceStepIs n r s)
+        (sym (cond-false (eqb (r % (s + s)) s) SendsToParent (cond (eqb (r % (s + s)) 0 && ltb (r + s) n) ReceivesFromChild Rests) h
+        ∙ cond-true (eqb (r % (s + s)) 0 && ltb (r + s) n) ReceivesFromChild Rests x))
         (is_takes (eqb-true (r % (s + s)) 0 parts.0) (ltb-true (r + s) n parts.1))
     go (inr h) (inr x) =
-        subst (ReduceStepIs n r s) (sym (cond-false (eqb (r % (s + s)) s) SendsToParent (cond (eqb (r % (s + s)) 0 && ltb (r + s) n) ReceivesFromChild Rests) h ∙ cond-false (eqb (r % (s + s)) 0 && ltb (r + s) n) ReceivesFromChild Rests x))
+        subst (ReduceStepIs n r s)
+        (sym (cond-false (eqb (r % (s + s)) s) SendsToParent (cond (eqb (r % (s + s)) 0 && ltb (r + s) n) ReceivesFromChild Rests) h
+        ∙ cond-false (eqb (r % (s + s)) 0 && ltb (r + s) n) ReceivesFromChild Rests x))
         (is_rests (eqb-false (r % (s + s)) s h) (far (and_cases (eqb (r % (s + s)) 0) (ltb (r + s) n) x)))
 
 pub role_gives : (n r s : ℕ) → r % (s + s) ≡ s → reduce_step n r s ≡ SendsToParent
@@ -64,7 +75,8 @@ role_gives n r s e = cond-true (eqb (r % (s + s)) s) SendsToParent _ (eq-eqb (r 
 role_takes : (n r s : ℕ) → 0 < s → r % (s + s) ≡ 0 → r + s < n → reduce_step n r s ≡ ReceivesFromChild
 role_takes n r s pos e h =
     cond-false (eqb (r % (s + s)) s) SendsToParent _ (ne_eqb (r % (s + s)) s (omega arith))
-    ∙ cond-true (eqb (r % (s + s)) 0 && ltb (r + s) n) ReceivesFromChild Rests (and_from (eqb (r % (s + s)) 0) (ltb (r + s) n) (eq-eqb (r % (s + s)) 0 e) (lt-ltb (r + s) n h))
+    ∙ cond-true (eqb (r % (s + s)) 0 && ltb (r + s) n) ReceivesFromChild Rests
+    (and_from (eqb (r % (s + s)) 0) (ltb (r + s) n) (eq-eqb (r % (s + s)) 0 e) (lt-ltb (r + s) n h))
 
 role_rests : (n r s : ℕ) → 0 < s → r % (s + s) ≡ 0 → n ≤ r + s → reduce_step n r s ≡ Rests
 role_rests n r s pos e h =
@@ -117,7 +129,8 @@ module _ (op : Op) (ty : Datatype) (b : ℕ) (fit : b % width ty ≡ 0) (may : I
   no_peer ReceivesFromChild = refl
   no_peer Rests = refl
 
-  meets : (n r p s : ℕ) (o q : ReduceStep) → r < n → p < n → 0 < s → ReduceStepIs n r s o → ReduceStepIs n p s q → len_of (in_link p (moves b r s o)) ≡ len_of (out_link r (moves b p s q))
+  meets : (n r p s : ℕ) (o q : ReduceStep) → r < n → p < n → 0 < s → ReduceStepIs n r s o → ReduceStepIs n p s q
+      → len_of (in_link p (moves b r s o)) ≡ len_of (out_link r (moves b p s q))
   meets n r p s o q hr hp pos x y = go x y (cases_eq (r + s) p)
     where
       some_in : r + s ≡ p → in_link p (moves b r s ReceivesFromChild) ≡ Some (behind b)
@@ -139,7 +152,8 @@ module _ (op : Op) (ty : Datatype) (b : ℕ) (fit : b % width ty ≡ 0) (may : I
       up : r % (s + s) ≡ 0 → r + s ≡ p → p % (s + s) ≡ s
       up e k = ap (λ x. x % (s + s)) (sym k) ∙ mod_up r s pos e
 
-      go : {o q : ReduceStep} → ReduceStepIs n r s o → ReduceStepIs n p s q → (r + s ≡ p) ⊎ (r + s ≡ p → ⊥) → len_of (in_link p (moves b r s o)) ≡ len_of (out_link r (moves b p s q))
+      go : {o q : ReduceStep} → ReduceStepIs n r s o → ReduceStepIs n p s q → (r + s ≡ p) ⊎ (r + s ≡ p → ⊥)
+          → len_of (in_link p (moves b r s o)) ≡ len_of (out_link r (moves b p s q))
       go (is_takes e h) (is_gives f) (inl k) = ap len_of (some_in k) ∙ sym (ap len_of (some_out (omega arith)))
       go (is_takes e h) (is_gives f) (inr d) = ap len_of (none_in d) ∙ sym (ap len_of (none_out (λ k. d (back f k).1)))
       go (is_takes e h) (is_takes f g) (inl k) = let u : p % (s + s) ≡ s = up e k in absurd (omega arith)
@@ -181,21 +195,25 @@ module _ (op : Op) (ty : Datatype) (b : ℕ) (fit : b % width ty ≡ 0) (may : I
 
 pub length-reduce_tree_rounds : (op : Op) (ty : Datatype) (b n k c : ℕ) → length (reduce_tree_rounds op ty b n k c) ≡ c + c
 length-reduce_tree_rounds op ty b n k zero = refl
-length-reduce_tree_rounds op ty b n k (suc c) = let e : length (reduce_tree_rounds op ty b n (suc k) c) ≡ c + c = length-reduce_tree_rounds op ty b n (suc k) c in omega arith
+length-reduce_tree_rounds op ty b n k (suc c) = let e : length (reduce_tree_rounds op ty b n (suc k) c) ≡ c + c =
+    length-reduce_tree_rounds op ty b n (suc k) c in omega arith
 
-pub reduce_tree_rounds-moves : (op : Op) (ty : Datatype) (b n k c i : ℕ) → i < c → column_of (reduce_tree_rounds op ty b n k c) (i + i) ≡ move_at b n (2 ^ (k + i))
+pub reduce_tree_rounds-moves : (op : Op) (ty : Datatype) (b n k c i : ℕ) → i < c
+    → column_of (reduce_tree_rounds op ty b n k c) (i + i) ≡ move_at b n (2 ^ (k + i))
 reduce_tree_rounds-moves op ty b n k zero i h = absurd (omega arith)
 reduce_tree_rounds-moves op ty b n k (suc c) zero h = ap (λ e. move_at b n (2 ^ e)) (let z : k ≡ k + 0 = omega arith in z)
 reduce_tree_rounds-moves op ty b n k (suc c) (suc i) h =
     ap (column_of (reduce_tree_rounds op ty b n k (suc c))) (let e : suc i + suc i ≡ suc (suc (i + i)) = omega arith in e)
     ∙ (reduce_tree_rounds-moves op ty b n (suc k) c i (omega arith) ∙ ap (λ e. move_at b n (2 ^ e)) (let z : suc k + i ≡ k + suc i = omega arith in z))
 
-pub reduce_tree_rounds-combines : (op : Op) (ty : Datatype) (b n k c i : ℕ) → i < c → column_of (reduce_tree_rounds op ty b n k c) (suc (i + i)) ≡ combine_at op ty b n (2 ^ (k + i))
+pub reduce_tree_rounds-combines : (op : Op) (ty : Datatype) (b n k c i : ℕ) → i < c
+    → column_of (reduce_tree_rounds op ty b n k c) (suc (i + i)) ≡ combine_at op ty b n (2 ^ (k + i))
 reduce_tree_rounds-combines op ty b n k zero i h = absurd (omega arith)
 reduce_tree_rounds-combines op ty b n k (suc c) zero h = ap (λ e. combine_at op ty b n (2 ^ e)) (let z : k ≡ k + 0 = omega arith in z)
 reduce_tree_rounds-combines op ty b n k (suc c) (suc i) h =
     ap (column_of (reduce_tree_rounds op ty b n k (suc c))) (let e : suc (suc i + suc i) ≡ suc (suc (suc (i + i))) = omega arith in e)
-    ∙ (reduce_tree_rounds-combines op ty b n (suc k) c i (omega arith) ∙ ap (λ e. combine_at op ty b n (2 ^ e)) (let z : suc k + i ≡ k + suc i = omega arith in z))
+    ∙ (reduce_tree_rounds-combines op ty b n (suc k) c i (omega arith)
+    ∙ ap (λ e. combine_at op ty b n (2 ^ e)) (let z : suc k + i ≡ k + suc i = omega arith in z))
 
 -- in any family that begins with these rounds
 module _ (f : Family) (op : Op) (ty : Datatype) (b n d : ℕ)
@@ -220,11 +238,14 @@ module _ (f : Family) (op : Op) (ty : Datatype) (b n d : ℕ)
       even : r % (2 ^ i + 2 ^ i) ≡ 0
       even = ap (λ m. r % m) (omega (arith, pow-suc 2 i)) ∙ e
 
-      go : ((q : ℕ) → q % (2 ^ i) ≡ 0 → q ≤ p → p < q + 2 ^ i → Heard f (i + i) q p) → (p < r + 2 ^ i) ⊎ (r + 2 ^ i ≤ p) → Heard f (i + i) r p ⊎ ((q : ℕ) × Receives (actions_at f (i + i) r) q × Heard f (i + i) q p)
+      go : ((q : ℕ) → q % (2 ^ i) ≡ 0 → q ≤ p → p < q + 2 ^ i → Heard f (i + i) q p) → (p < r + 2 ^ i) ⊎ (r + 2 ^ i ≤ p)
+          → Heard f (i + i) r p ⊎ ((q : ℕ) × Receives (actions_at f (i + i) r) q × Heard f (i + i) q p)
       go more (inl x) = inl (more r (mod_half r (2 ^ i) (ap (λ m. r % m) (omega (arith, pow-suc 2 i)) ∙ e)) low x)
       go more (inr x) = inr (
         r + 2 ^ i,
-        subst (λ xs. Receives xs (r + 2 ^ i)) (sym (moved i r ReceivesFromChild (omega arith) (role_takes n r (2 ^ i) (pow_pos i) (ap (λ m. r % m) (omega (arith, pow-suc 2 i)) ∙ e) (omega arith)))) (inl refl),
+        subst (λ xs. Receives xs (r + 2 ^ i))
+            (sym (moved i r ReceivesFromChild (omega arith)
+            (role_takes n r (2 ^ i) (pow_pos i) (ap (λ m. r % m) (omega (arith, pow-suc 2 i)) ∙ e) (omega arith)))) (inl refl),
         more (r + 2 ^ i) (add-mod_right r (2 ^ i) ∙ mod_half r (2 ^ i) (ap (λ m. r % m) (omega (arith, pow-suc 2 i)) ∙ e)) x (omega (arith, pow-suc 2 i)),
       )
 
@@ -238,7 +259,8 @@ module _ (f : Family) (op : Op) (ty : Datatype) (b n d : ℕ)
         ap (λ j. read_of (lock_step f given j r) (front b)) (let k : suc i + suc i ≡ suc (suc (i + i)) = omega arith in k)
         ∙ go (pow_pos i) (ap (λ m. r % m) (omega (arith, pow-suc 2 i)) ∙ e) (λ q x y. fold_holds i q (omega arith) x y) (cases_lt (r + 2 ^ i) n)
       where
-        go : 0 < 2 ^ i → r % (2 ^ i + 2 ^ i) ≡ 0 → ((q : ℕ) → q < n → q % (2 ^ i) ≡ 0 → read_of (lock_step f given (i + i) q) (front b) ≡ span op ty given q (min (2 ^ i) (n - q)))
+        go : 0 < 2 ^ i → r % (2 ^ i + 2 ^ i) ≡ 0
+            → ((q : ℕ) → q < n → q % (2 ^ i) ≡ 0 → read_of (lock_step f given (i + i) q) (front b) ≡ span op ty given q (min (2 ^ i) (n - q)))
             → (r + 2 ^ i < n) ⊎ (n ≤ r + 2 ^ i) → read_of (lock_step f given (suc (suc (i + i))) r) (front b) ≡ span op ty given r (min (2 ^ suc i) (n - r))
         go pos even before (inl x) =
             let q : ℕ = r + 2 ^ i in
@@ -257,7 +279,8 @@ module _ (f : Family) (op : Op) (ty : Datatype) (b n d : ℕ)
             ∙ (message_is n f lawful given laid (i + i) r (r + 2 ^ i) (front b) x
             (subst (λ xs. Has xs (Send r (front b))) (sym theirs) (inl (ap (λ m. Send m (front b)) (let k : r + 2 ^ i - 2 ^ i ≡ r = omega arith in k))))
             ∙ before (r + 2 ^ i) x (add-mod_right r (2 ^ i) ∙ mod_half r (2 ^ i) even)))
-            ∙ span_join op ty b n assoc given rows r (2 ^ i) (min (2 ^ i) (n - (r + 2 ^ i))) (min (2 ^ suc i) (n - r)) pos (omega arith) (omega (arith, pow-suc 2 i)) (omega arith)))
+            ∙ span_join op ty b n assoc given rows r (2 ^ i) (min (2 ^ i) (n - (r + 2 ^ i))) (min (2 ^ suc i) (n - r)) pos
+            (omega arith) (omega (arith, pow-suc 2 i)) (omega arith)))
         go pos even before (inr x) =
             let acts = moved i r Rests (omega arith) (role_rests n r (2 ^ i) pos even x) in
             let joins = combines_in i r Rests (omega arith) (role_rests n r (2 ^ i) pos even x) in

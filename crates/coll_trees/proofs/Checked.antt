@@ -1,5 +1,6 @@
 -- what a checked signature is known to keep
-use Rattle.std.proofs.Common.{◌≡◌, ℕ, ◌%◌, ◌<◌, Bool, true, false, cond, eqb, ltb, List, length, Option, Some, None, IsTrue, refl, sym, ap, ◌∙◌, unwrap_or, ltb-true}
+use Rattle.std.proofs.Common.{◌≡◌, ℕ, ◌%◌, ◌<◌, Bool, true, false, cond, eqb, ltb, List, length, Option, Some, None, IsTrue, refl, sym, ap, ◌∙◌}
+use Rattle.std.proofs.Common.{unwrap_or, ltb-true}
 use Rattle.std.proofs.lemmas.Bool.{cond-true, false≢true}
 use Rattle.std.proofs.lemmas.Option.{none-some}
 use Rattle.std.proofs.Math.Nat.{mul-mod_left}
@@ -30,7 +31,8 @@ sizes_pass false h = absurd (none-some Size (sym h))
 
 pub checked : (sig : Signature) (n : ℕ) → broken sig n ≡ None → IsChecked sig n
 checked sig n h =
-    let a = passes (root_fits sig n) (cond (operation_fits sig) (cond (count_fits sig n) (cond (sizes_fit sig n n) None (Some Size)) (Some Count)) (Some Operation)) Root h in
+    let a = passes (root_fits sig n)
+    (cond (operation_fits sig) (cond (count_fits sig n) (cond (sizes_fit sig n n) None (Some Size)) (Some Count)) (Some Operation)) Root h in
     let b = passes (operation_fits sig) (cond (count_fits sig n) (cond (sizes_fit sig n n) None (Some Size)) (Some Count)) Operation a.1 in
     let c = passes (count_fits sig n) (cond (sizes_fit sig n n) None (Some Size)) Count b.1 in
     record { root_is = a.0; operation_is = b.0; count_is = c.0; sizes_are = sizes_pass (sizes_fit sig n n) c.1 }

@@ -1,8 +1,10 @@
 -- what holds of each round of a family holds of the family
-use Rattle.std.proofs.Common.{◌≡◌, ℕ, zero, suc, ◌+◌, ◌<◌, ◌≤◌, ◌||◌, Bool, true, false, cond, List, [], ◌∷◌, ◌++◌, length, slice_get, unwrap_or, refl, sym, ap, subst, ◌∙◌, arith, count_by}
+use Rattle.std.proofs.Common.{◌≡◌, ℕ, zero, suc, ◌+◌, ◌<◌, ◌≤◌, ◌||◌, Bool, true, false, cond, List, [], ◌∷◌, ◌++◌, length, slice_get, unwrap_or}
+use Rattle.std.proofs.Common.{refl, sym, ap, subst, ◌∙◌, arith, count_by}
 use Rattle.std.specs.List.{AllByRecursion, list_any}
 use Rattle.coll_sched.specs.declared.region.Region.{Region}
-use Rattle.coll_sched.specs.Common.{Inside, IsAmong, IsRound, has_peer, Family, actions_at, in_link, out_link, len_of, IsLawful, members, is_exchange, family_exchanges, is_send, is_recv, IsNarrow}
+use Rattle.coll_sched.specs.Common.{Inside, IsAmong, IsRound, has_peer, Family, actions_at, in_link, out_link, len_of, IsLawful, members, is_exchange}
+use Rattle.coll_sched.specs.Common.{family_exchanges, is_send, is_recv, IsNarrow}
 use Rattle.coll_sched.proofs.Each.{all_map}
 use Rattle.coll_sched.proofs.Orders.{count_cons}
 use Rattle.coll_trees.specs.Columns.{Column, rounds_of, family_of}
@@ -77,14 +79,22 @@ empty_lawful n size = record {
   aligned = λ r p hr hp. refl;
 }
 
-rounds_all : (n : ℕ) (size : ℕ → ℕ) (r : ℕ) → r < n → (columns : List Column) → AllByRecursion (IsLawfulColumn n size) columns → AllByRecursion (IsRound (size r)) (rounds_of columns r)
+rounds_all : (n : ℕ) (size : ℕ → ℕ) (r : ℕ) → r < n → (columns : List Column) → AllByRecursion (IsLawfulColumn n size) columns
+    → AllByRecursion (IsRound (size r)) (rounds_of columns r)
 rounds_all n size r low [] h = tt
 rounds_all n size r low (c ∷ cs) h = (h.0.is_round r low, rounds_all n size r low cs h.1)
 
 -- a family whose rounds are lawful columns, each member's buffer having its own size
-pub lawful_columns : (n : ℕ) (f : Family) (columns : List Column) → ((r : ℕ) → (f r).rounds ≡ rounds_of columns r) → ((r : ℕ) → r < n → Inside (f r).size (f r).input) → ((r : ℕ) → r < n → Inside (f r).size (f r).output) → AllByRecursion (IsLawfulColumn n (λ r. (f r).size)) columns → IsLawful n f
+pub lawful_columns : (n : ℕ) (f : Family) (columns : List Column) → ((r : ℕ) → (f r).rounds ≡ rounds_of columns r)
+    → ((r : ℕ) → r < n → Inside (f r).size (f r).input) → ((r : ℕ) → r < n → Inside (f r).size (f r).output)
+    → AllByRecursion (IsLawfulColumn n (λ r. (f r).size)) columns → IsLawful n f
 lawful_columns n f columns is ins outs h = record {
-  schedules = λ r low. record { input_inside = ins r low; output_inside = outs r low; each_round = subst (AllByRecursion (IsRound (f r).size)) (sym (is r)) (rounds_all n (λ q. (f q).size) r low columns h) };
+  schedules = λ r low. record {
+    input_inside = ins r low;
+    output_inside = outs r low;
+    each_round =
+        subst (AllByRecursion (IsRound (f r).size)) (sym (is r)) (rounds_all n (λ q. (f q).size) r low columns h);
+  };
   same_rounds = λ r p hr hp. rounds r ∙ sym (rounds p);
   peers = λ j r low. subst (AllByRecursion (IsAmong n)) (sym (acts j r)) ((at j).peers r low);
   aligned = λ j r p hr hp. ap (λ xs. len_of (in_link p xs)) (acts j r) ∙ ((at j).aligned r p hr hp ∙ sym (ap (λ xs. len_of (out_link r xs)) (acts j p)));
@@ -102,12 +112,14 @@ lawful_columns n f columns is ins outs h = record {
 lawful_column : (n size : ℕ) (column : Column) → IsColumn n size column → IsLawfulColumn n (λ r. size) column
 lawful_column n size column h = record { is_round = h.is_round; peers = h.peers; aligned = h.aligned }
 
-pub lawful_family : (n size : ℕ) (input output : ℕ → Region) (columns : List Column) → ((r : ℕ) → r < n → Inside size (input r)) → ((r : ℕ) → r < n → Inside size (output r)) → AllByRecursion (IsColumn n size) columns → IsLawful n (family_of size input output columns)
+pub lawful_family : (n size : ℕ) (input output : ℕ → Region) (columns : List Column) → ((r : ℕ) → r < n → Inside size (input r))
+    → ((r : ℕ) → r < n → Inside size (output r)) → AllByRecursion (IsColumn n size) columns → IsLawful n (family_of size input output columns)
 lawful_family n size input output columns ins outs h =
     lawful_columns n (family_of size input output columns) columns (λ r. refl) ins outs
     (all_map (IsColumn n size) (IsLawfulColumn n (λ r. size)) (lawful_column n size) columns h)
 
-pub narrow_family : (n size : ℕ) (input output : ℕ → Region) (columns : List Column) → AllByRecursion (IsColumn n size) columns → IsNarrow n (family_of size input output columns)
+pub narrow_family : (n size : ℕ) (input output : ℕ → Region) (columns : List Column) → AllByRecursion (IsColumn n size) columns
+    → IsNarrow n (family_of size input output columns)
 narrow_family n size input output columns h = record {
   one_send = λ j r low. subst (λ xs. count_by is_send xs ≤ 1) (sym (round-column columns j r)) ((at j).one_send r low);
   one_recv = λ j r low. subst (λ xs. count_by is_recv xs ≤ 1) (sym (round-column columns j r)) ((at j).one_recv r low);
@@ -146,31 +158,46 @@ at_most_one : (b : Bool) → cond b 1 0 ≤ 1
 at_most_one true = omega arith
 at_most_one false = omega arith
 
-count_columns : (n : ℕ) (f : Family) (columns : List Column) (j k : ℕ) → Costs columns k → ((i r : ℕ) → i < length columns → actions_at f (j + i) r ≡ column_of columns i r) → count_by (is_exchange n f) (members j (length columns)) ≤ k
+count_columns : (n : ℕ) (f : Family) (columns : List Column) (j k : ℕ) → Costs columns k
+    → ((i r : ℕ) → i < length columns → actions_at f (j + i) r ≡ column_of columns i r) → count_by (is_exchange n f) (members j (length columns)) ≤ k
 count_columns n f [] j k c h = omega arith
 count_columns n f (x ∷ xs) j k (local_round e c) h =
-    let rest : count_by (is_exchange n f) (members (suc j) (length xs)) ≤ k = count_columns n f xs (suc j) k c (λ i r low. ap (λ m. actions_at f m r) (let z : suc j + i ≡ j + suc i = omega arith in z) ∙ h (suc i) r (omega arith)) in
-    let here : is_exchange n f j ≡ false = none_any (λ r. list_any has_peer (actions_at f j r)) 0 n (λ r low. ap (list_any has_peer) (ap (λ m. actions_at f m r) (let z : j ≡ j + 0 = omega arith in z) ∙ h 0 r (omega arith)) ∙ e r) in
-    let all : count_by (is_exchange n f) (members j (suc (length xs))) ≡ 0 + count_by (is_exchange n f) (members (suc j) (length xs)) = count_cons (is_exchange n f) j (members (suc j) (length xs)) ∙ ap (λ (b : Bool). cond b 1 0 + count_by (is_exchange n f) (members (suc j) (length xs))) here in
+    let rest : count_by (is_exchange n f) (members (suc j) (length xs)) ≤ k =
+    count_columns n f xs (suc j) k c
+    (λ i r low. ap (λ m. actions_at f m r) (let z : suc j + i ≡ j + suc i = omega arith in z) ∙ h (suc i) r (omega arith)) in
+    let here : is_exchange n f j ≡ false =
+    none_any (λ r. list_any has_peer (actions_at f j r)) 0 n
+    (λ r low. ap (list_any has_peer) (ap (λ m. actions_at f m r) (let z : j ≡ j + 0 = omega arith in z) ∙ h 0 r (omega arith)) ∙ e r) in
+    let all : count_by (is_exchange n f) (members j (suc (length xs))) ≡ 0 + count_by (is_exchange n f) (members (suc j) (length xs)) =
+    count_cons (is_exchange n f) j (members (suc j) (length xs))
+    ∙ ap (λ (b : Bool). cond b 1 0 + count_by (is_exchange n f) (members (suc j) (length xs))) here in
     omega arith
 count_columns n f (x ∷ xs) j (suc k) (exchange c) h =
-    let rest : count_by (is_exchange n f) (members (suc j) (length xs)) ≤ k = count_columns n f xs (suc j) k c (λ i r low. ap (λ m. actions_at f m r) (let z : suc j + i ≡ j + suc i = omega arith in z) ∙ h (suc i) r (omega arith)) in
-    let all : count_by (is_exchange n f) (members j (suc (length xs))) ≡ cond (is_exchange n f j) 1 0 + count_by (is_exchange n f) (members (suc j) (length xs)) = count_cons (is_exchange n f) j (members (suc j) (length xs)) in
+    let rest : count_by (is_exchange n f) (members (suc j) (length xs)) ≤ k =
+    count_columns n f xs (suc j) k c
+    (λ i r low. ap (λ m. actions_at f m r) (let z : suc j + i ≡ j + suc i = omega arith in z) ∙ h (suc i) r (omega arith)) in
+    let all : count_by (is_exchange n f) (members j (suc (length xs)))
+    ≡ cond (is_exchange n f j) 1 0 + count_by (is_exchange n f) (members (suc j) (length xs)) =
+    count_cons (is_exchange n f) j (members (suc j) (length xs)) in
     let one : cond (is_exchange n f j) 1 0 ≤ 1 = at_most_one (is_exchange n f j) in
     omega arith
 
-pub few_exchanges : (n size : ℕ) (input output : ℕ → Region) (columns : List Column) (k : ℕ) → Costs columns k → family_exchanges n (family_of size input output columns) ≤ k
+pub few_exchanges : (n size : ℕ) (input output : ℕ → Region) (columns : List Column) (k : ℕ) → Costs columns k
+    → family_exchanges n (family_of size input output columns) ≤ k
 few_exchanges n size input output columns k c =
     subst (λ m. count_by (is_exchange n (family_of size input output columns)) (members 0 m) ≤ k) (sym (length-rounds columns 0))
-    (count_columns n (family_of size input output columns) columns 0 k c (λ i r low. ap (λ m. unwrap_or (slice_get (rounds_of columns r) m) []) (let z : 0 + i ≡ i = omega arith in z) ∙ round-column columns i r))
+    (count_columns n (family_of size input output columns) columns 0 k c
+    (λ i r low. ap (λ m. unwrap_or (slice_get (rounds_of columns r) m) []) (let z : 0 + i ≡ i = omega arith in z) ∙ round-column columns i r))
 
 count_none : (p : ℕ → Bool) (k c : ℕ) → ((j : ℕ) → p j ≡ false) → count_by p (members k c) ≤ 0
 count_none p k zero h = omega arith
 count_none p k (suc c) h =
     let rest : count_by p (members (suc k) c) ≤ 0 = count_none p (suc k) c h in
-    let all : count_by p (members k (suc c)) ≡ 0 + count_by p (members (suc k) c) = count_cons p k (members (suc k) c) ∙ ap (λ (b : Bool). cond b 1 0 + count_by p (members (suc k) c)) (h k) in
+    let all : count_by p (members k (suc c)) ≡ 0 + count_by p (members (suc k) c) =
+    count_cons p k (members (suc k) c) ∙ ap (λ (b : Bool). cond b 1 0 + count_by p (members (suc k) c)) (h k) in
     omega arith
 
 -- a family without Sends and Recvs has no exchanges
 pub no_exchanges : (n : ℕ) (f : Family) → ((j r : ℕ) → r < n → list_any has_peer (actions_at f j r) ≡ false) → family_exchanges n f ≤ 0
-no_exchanges n f h = count_none (is_exchange n f) 0 (length (f 0).rounds) (λ j. none_any (λ r. list_any has_peer (actions_at f j r)) 0 n (λ r low. h j r (omega arith)))
+no_exchanges n f h =
+    count_none (is_exchange n f) 0 (length (f 0).rounds) (λ j. none_any (λ r. list_any has_peer (actions_at f j r)) 0 n (λ r low. h j r (omega arith)))

@@ -1,5 +1,6 @@
 -- the depth is enough, and no distance reaches the number of members
-use Rattle.std.proofs.Common.{◌≡◌, ℕ, zero, suc, ◌+◌, ◌^◌, ◌<◌, ◌≤◌, ◌⊎◌, inl, inr, Bool, cond, true, false, leb, sym, subst, arith, leb-false, leb-true, le-leb, ap, ◌∙◌, ◌-◌}
+use Rattle.std.proofs.Common.{◌≡◌, ℕ, zero, suc, ◌+◌, ◌^◌, ◌<◌, ◌≤◌, ◌⊎◌, inl, inr, Bool, cond, true, false, leb, sym, subst, arith, leb-false}
+use Rattle.std.proofs.Common.{leb-true, le-leb, ap, ◌∙◌, ◌-◌}
 use Rattle.std.proofs.lemmas.Bool.{cases_eq, cases_Bool, cond-true, cond-false, cond_both, lt-leb}
 use Rattle.coll_trees.specs.Depths.{depth_from, depth}
 

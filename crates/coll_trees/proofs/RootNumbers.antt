@@ -68,4 +68,6 @@ member_at-from_root n root r low hr =
     (member_at_is n root (from_root n root r) low v) (from_root_is n root r low)
 
 pub from_root-member_at : (n root v : ℕ) → root < n → v < n → from_root n root (member_at n root v) ≡ v
-from_root-member_at n root v low hv = same_number n root (member_at n root v) (from_root n root (member_at n root v)) v (from_root_is n root (member_at n root v) low) (member_at_is n root v low hv)
+from_root-member_at n root v low hv =
+    same_number n root (member_at n root v) (from_root n root (member_at n root v)) v
+    (from_root_is n root (member_at n root v) low) (member_at_is n root v low hv)

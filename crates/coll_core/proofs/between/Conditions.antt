@@ -120,8 +120,12 @@ module _ (p : Parts) (core : IsCore p) where
       spare = λ slot low e. lock.spare slot low (spare_by ((tables p).request slot) e);
       agree = lock.agree;
       own = λ slot q e.
-          let b = behind (tables p) slot q e in
-          (b.live.sig, ap (λ (q : Asked). slice_get ((seen p).state.posts q.comm q.member) q.place) (sym b.is) ∙ lock.own slot b.live b.here, ap (λ (q : Asked). q.mode) b.is);
+          let b = behind (tables p) slot q e in (
+            b.live.sig,
+            ap (λ (q : Asked). slice_get ((seen p).state.posts q.comm q.member) q.place) (sym b.is)
+                ∙ lock.own slot b.live b.here,
+            ap (λ (q : Asked). q.mode) b.is,
+          );
       alone = λ i j q r e f comm place member.
           let b = behind (tables p) i q e in
           let c = behind (tables p) j r f in

@@ -1,5 +1,6 @@
 -- What the engine's condition says of the first request of Ready.
-use Rattle.std.proofs.Common.{◌≡◌, ◌≢◌, ◌∙◌, ◌<◌, ◌+◌, ◌*◌, ℕ, zero, suc, List, [], ◌∷◌, Option, Some, None, length, slice_get, unwrap_or, ap, sym, subst, arith}
+use Rattle.std.proofs.Common.{◌≡◌, ◌≢◌, ◌∙◌, ◌<◌, ◌+◌, ◌*◌, ℕ, zero, suc, List, [], ◌∷◌, Option, Some, None, length, slice_get, unwrap_or, ap, sym}
+use Rattle.std.proofs.Common.{subst, arith}
 use Rattle.std.proofs.lemmas.Option.{none-some, same_Some}
 use Rattle.coll_kinds.specs.declared.ticket.Ticket.{Ticket}
 use Rattle.coll_sched.specs.declared.action.Action.{Action}
@@ -39,10 +40,12 @@ two_not_idle l c e f = omega (arith, e, f)
 three_not_idle : (l c : ℕ) → l ≡ 3 → l ≢ 4 + 3 * c
 three_not_idle l c e f = omega (arith, e, f)
 
-pub acting : (p : Parts) → IsCore p → (i : ℕ) (x : Request) → record_in p.arena i ≡ Some x → home p.arena i ≡ 2 → statements.IsActive shown (setting p) p.arena p.matches x
+pub acting : (p : Parts) → IsCore p → (i : ℕ) (x : Request) → record_in p.arena i ≡ Some x → home p.arena i ≡ 2
+    → statements.IsActive shown (setting p) p.arena p.matches x
 acting p core i x here home_is = active_core shown (setting p) p.arena p.queues p.matches i x core here (two_not_idle (home p.arena i) x.comm home_is)
 
-pub running_acting : (p : Parts) → IsCore p → (i : ℕ) (x : Request) → record_in p.arena i ≡ Some x → home p.arena i ≡ 3 → statements.IsActive shown (setting p) p.arena p.matches x
+pub running_acting : (p : Parts) → IsCore p → (i : ℕ) (x : Request) → record_in p.arena i ≡ Some x → home p.arena i ≡ 3
+    → statements.IsActive shown (setting p) p.arena p.matches x
 running_acting p core i x here home_is = active_core shown (setting p) p.arena p.queues p.matches i x core here (three_not_idle (home p.arena i) x.comm home_is)
 
 at_first : (p : Parts) (t : Ticket) (x : Request) (a : Action) → IsCore p → IsFirst p.arena 2 t

@@ -29,9 +29,11 @@ of_lock_step p core w out = record {
     f = family out.request.plan.sig out.request.plan.n
 
     read : AreOperands f (given p.matches (key (shown out.request))) (shown out.request) out.stands.left out.stands.right
-    read = (running_acting p core w.ticket.slot out.request out.here out.runs).operands w.op w.ty out.stands.left out.stands.right out.stands.into out.stands.next_is
+    read = (running_acting p core w.ticket.slot out.request out.here out.runs).operands w.op w.ty out.stands.left
+        out.stands.right out.stands.into out.stands.next_is
 
     at_round : (region : Region)
         → read_of (lock_step f (filled f (given p.matches (key (shown out.request)))) out.request.round out.request.plan.member) region
         ≡ read_of (lock_step f (filled f (given p.matches (key (shown out.request)))) w.round out.request.plan.member) region
-    at_round region = ap (λ j. read_of (lock_step f (filled f (given p.matches (key (shown out.request)))) j out.request.plan.member) region) out.stands.round_is
+    at_round region =
+        ap (λ j. read_of (lock_step f (filled f (given p.matches (key (shown out.request)))) j out.request.plan.member) region) out.stands.round_is

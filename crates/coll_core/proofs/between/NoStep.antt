@@ -28,7 +28,8 @@ use Rattle.coll_core.specs.Requests.{schedule, shown}
 use Rattle.coll_core.specs.Steps.{MovesOne, left, running}
 
 -- a slot that goes elsewhere leaves the other lists as they are
-pub sequence_kept : (a : Slots Request) (b : Layout) (i list k : ℕ) → IsSound a → b ≡ moved_back i list a.lists → k ≢ list → k ≢ home a i → sequence b k ≡ sequence a.lists k
+pub sequence_kept : (a : Slots Request) (b : Layout) (i list k : ℕ) → IsSound a → b ≡ moved_back i list a.lists → k ≢ list
+    → k ≢ home a i → sequence b k ≡ sequence a.lists k
 sequence_kept a b i list k sound is off away =
     ap (λ (l : Layout). sequence l k) is
     ∙ (get_or-set_other (without i a.lists) list k (sequence (without i a.lists) list ++ i ∷ []) [] off

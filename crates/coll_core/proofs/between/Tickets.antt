@@ -1,5 +1,6 @@
 -- What a ticket names, in the tables that the parts show.
-use Rattle.std.proofs.Common.{◌≡◌, ◌∙◌, ◌<◌, ◌&&◌, ◌≤◌, ℕ, Bool, true, false, length, Option, Some, None, option_map, if◌then◌else◌, nat_lt, is_some, ap, refl, sym, arith}
+use Rattle.std.proofs.Common.{◌≡◌, ◌∙◌, ◌<◌, ◌&&◌, ◌≤◌, ℕ, Bool, true, false, length, Option, Some, None, option_map, if◌then◌else◌, nat_lt, is_some}
+use Rattle.std.proofs.Common.{ap, refl, sym, arith}
 use Rattle.std.proofs.lemmas.Bool.{false≢true}
 use Rattle.std.proofs.lemmas.Bool.Decides.{nat_tests}
 use Rattle.std.proofs.lemmas.List.{get_or_past}

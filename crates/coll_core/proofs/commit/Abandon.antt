@@ -19,7 +19,8 @@ use Rattle.coll_core.proofs.step.Act.{parts}
 use Rattle.coll_core.proofs.step.Combine.{moved}
 
 front_first : (lists : Layout) (i : ℕ) → 2 < length lists → first_in (sequence (moved_front i 2 lists) 2) ≡ Some i
-front_first lists i low = ap first_in (get_or-set_same (without i lists) 2 (i ∷ sequence (without i lists) 2) [] (subst (λ n. 2 < n) (sym (length-map lists (taken_out i))) low))
+front_first lists i low =
+    ap first_in (get_or-set_same (without i lists) 2 (i ∷ sequence (without i lists) 2) [] (subst (λ n. 2 < n) (sym (length-map lists (taken_out i))) low))
 
 two_low : (n c : ℕ) → n ≡ 4 + 3 * c → 2 < n
 two_low n c e = omega (arith, e)
@@ -32,7 +33,8 @@ pub returned : (ranks starts trace : ℕ) (a b : Slots Request) (q : Postings) (
 returned ranks starts trace a b q m v w t t_is e sound core out is puts = (
   kept.0,
   subst (λ (z : Parts). Returns z (parts ranks starts trace b q m) w) e (record {
-    first = subst (λ (z : Ticket). first_in (sequence b.lists 2) ≡ Some z.slot) t_is (ap (λ (z : Slots Request). first_in (sequence z.lists 2)) is ∙ front_first a.lists t.slot (two_low (length a.lists) a.comms sound.lists_is));
+    first = subst (λ (z : Ticket). first_in (sequence b.lists 2) ≡ Some z.slot) t_is
+        (ap (λ (z : Slots Request). first_in (sequence z.lists 2)) is ∙ front_first a.lists t.slot (two_low (length a.lists) a.comms sound.lists_is));
     is = ap (λ (z : Slots Request). parts ranks starts trace z q m) (is ∙ ap (λ (u : Ticket). shifted_front a u.slot 2) t_is);
     stays = kept.1;
     running_is = subst (λ (z : Ticket). sequence b.lists 3 ≡ taken_out z.slot (sequence a.lists 3)) t_is (puts.from 3 (λ f. absurd (omega (arith, f))));

@@ -1,5 +1,6 @@
 -- rows that are combined a block at a time
-use Rattle.std.proofs.Common.{◌≡◌, ℕ, zero, suc, ◌+◌, ◌-◌, ◌*◌, ◌/◌, ◌%◌, ◌<◌, ◌≤◌, List, [], ◌∷◌, ◌++◌, take, drop, length, min, sym, ap, subst, ◌∙◌, arith, take_all}
+use Rattle.std.proofs.Common.{◌≡◌, ℕ, zero, suc, ◌+◌, ◌-◌, ◌*◌, ◌/◌, ◌%◌, ◌<◌, ◌≤◌, List, [], ◌∷◌, ◌++◌, take, drop, length, min, sym, ap, subst, ◌∙◌}
+use Rattle.std.proofs.Common.{arith, take_all}
 use Rattle.std.proofs.lemmas.Nat.{div-add-mod'}
 use Rattle.std.proofs.Math.Seq.{take-add}
 use Rattle.coll_kinds.specs.declared.datatype.Datatype.{Datatype}
@@ -54,7 +55,8 @@ blocks-long Pair len done n all front block within = omega arith
 
 -- a block of a combination is the combination of the blocks
 block-combined : (op : Op) (ty : Datatype) (left right : List ℕ) (m c j : ℕ) → length left ≡ (m + (c + j)) * width ty → length right ≡ length left →
-    combined op ty (take (c * width ty) (drop (m * width ty) left)) (take (c * width ty) (drop (m * width ty) right)) ≡ take (c * width ty) (drop (m * width ty) (combined op ty left right))
+    combined op ty (take (c * width ty) (drop (m * width ty) left)) (take (c * width ty) (drop (m * width ty) right))
+    ≡ take (c * width ty) (drop (m * width ty) (combined op ty left right))
 block-combined op ty left right m c j long same = combination-parts op ty m c j (left ∷ right ∷ []) (omega arith) each
   where
     each : (i : ℕ) → i < 2 → length (row_of (left ∷ right ∷ []) i) ≡ (m + (c + j)) * width ty
@@ -63,7 +65,8 @@ block-combined op ty left right m c j long same = combination-parts op ty m c j 
     each (suc (suc i)) below = absurd (omega arith)
 
 -- the same by the numbers of their bytes
-block-at : (op : Op) (ty : Datatype) (left right : List ℕ) (done n : ℕ) → length left % width ty ≡ 0 → length right ≡ length left → done % width ty ≡ 0 → n % width ty ≡ 0 → done + n ≤ length left →
+block-at : (op : Op) (ty : Datatype) (left right : List ℕ) (done n : ℕ) → length left % width ty ≡ 0 → length right ≡ length left
+    → done % width ty ≡ 0 → n % width ty ≡ 0 → done + n ≤ length left →
     combined op ty (take n (drop done left)) (take n (drop done right)) ≡ take n (drop done (combined op ty left right))
 block-at op ty left right done n whole same front block within =
     let w : ℕ = width ty in
@@ -72,12 +75,16 @@ block-at op ty left right done n whole same front block within =
     let rest : ℕ = (length left - (done + n)) / w in
     let long : length left ≡ (done / w + (n / w + rest)) * w = blocks-long ty (length left) done n whole front block within in
     subst (λ d. combined op ty (take n (drop d left)) (take n (drop d right)) ≡ take n (drop d (combined op ty left right))) at
-    (subst (λ k. combined op ty (take k (drop (done / w * w) left)) (take k (drop (done / w * w) right)) ≡ take k (drop (done / w * w) (combined op ty left right))) count
+    (subst (λ k. combined op ty (take k (drop (done / w * w) left)) (take k (drop (done / w * w) right))
+    ≡ take k (drop (done / w * w) (combined op ty left right))) count
     (block-combined op ty left right (done / w) (n / w) rest long same))
 
 -- the front of a combination with one block more, as the code's slices have it
-pub front-more : (op : Op) (ty : Datatype) (left right row more : List ℕ) (done n : ℕ) → length left % width ty ≡ 0 → length right ≡ length left → done % width ty ≡ 0 → n % width ty ≡ 0 → done + n ≤ length left →
-    row ≡ take done (combined op ty left right) → more ≡ row ++ combined op ty (take (done + n - done) (drop done left)) (take (done + n - done) (drop done right)) → more ≡ take (done + n) (combined op ty left right)
+pub front-more : (op : Op) (ty : Datatype) (left right row more : List ℕ) (done n : ℕ) → length left % width ty ≡ 0
+    → length right ≡ length left → done % width ty ≡ 0 → n % width ty ≡ 0 → done + n ≤ length left →
+    row ≡ take done (combined op ty left right)
+    → more ≡ row ++ combined op ty (take (done + n - done) (drop done left)) (take (done + n - done) (drop done right))
+    → more ≡ take (done + n) (combined op ty left right)
 front-more op ty left right row more done n whole same front block within was is =
     let all : List ℕ = combined op ty left right in
     let count : done + n - done ≡ n = omega arith in
@@ -88,5 +95,6 @@ front-more op ty left right row more done n whole same front block within was is
     ∙ sym (take-add done n all))))
 
 -- all of it
-pub front-whole : (op : Op) (ty : Datatype) (left right row : List ℕ) (done : ℕ) → length left % width ty ≡ 0 → length left ≤ done → row ≡ take done (combined op ty left right) → row ≡ combined op ty left right
+pub front-whole : (op : Op) (ty : Datatype) (left right row : List ℕ) (done : ℕ) → length left % width ty ≡ 0
+    → length left ≤ done → row ≡ take done (combined op ty left right) → row ≡ combined op ty left right
 front-whole op ty left right row done whole ends was = was ∙ take_all done (combined op ty left right) (omega (arith, length-combined op ty left right whole))

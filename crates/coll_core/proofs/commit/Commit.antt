@@ -37,7 +37,9 @@ use Rattle.coll_core.proofs.between.FirstOfReady.{have_lists, running_acting}
 pub out_filled : (p : Parts) (x : Request) (t u w : Ticket) → t ≡ w → u ≡ w → IsCore p → record_in p.arena t.slot ≡ Some x
     → true ≡ (names p.arena u && (home p.arena u.slot == 3)) → length x.buffer ≡ (schedule (shown x)).size
 out_filled p x t u w t_is u_is core here on =
-    (running_acting p core t.slot x here (ap (λ (z : Ticket). home p.arena z.slot) (t_is ∙ sym u_is) ∙ eqb-true (home p.arena u.slot) 3 (and_parts (names p.arena u) (home p.arena u.slot == 3) (sym on)).1)).filled
+    (running_acting p core t.slot x here
+    (ap (λ (z : Ticket). home p.arena z.slot) (t_is ∙ sym u_is)
+    ∙ eqb-true (home p.arena u.slot) 3 (and_parts (names p.arena u) (home p.arena u.slot == 3) (sym on)).1)).filled
 
 pub out_by : (p v : Parts) → p ≡ v → (x : Request) (w : Piece) (t u : Ticket) → t ≡ w.ticket → u ≡ w.ticket → record_in p.arena t.slot ≡ Some x
     → true ≡ (names p.arena u && (home p.arena u.slot == 3)) → (b : Bool) → (IsTrue b → StandsAt (shown x) w) × (StandsAt (shown x) w → IsTrue b)
@@ -67,12 +69,14 @@ pub record OutAt (p : Parts) (t : Ticket) (x : Request) (w : Piece) : Type 0 whe
   pub runs : home p.arena t.slot ≡ 3
   pub stands : StandsAt (shown x) w
 
-pub out_at : (p v : Parts) → p ≡ v → (w u : Piece) → u ≡ w → (t : Ticket) → t ≡ w.ticket → (x : Request) → IsOut v u → record_in p.arena t.slot ≡ Some x → OutAt p t x w
+pub out_at : (p v : Parts) → p ≡ v → (w u : Piece) → u ≡ w → (t : Ticket) → t ≡ w.ticket → (x : Request) → IsOut v u
+    → record_in p.arena t.slot ≡ Some x → OutAt p t x w
 out_at p v e w u u_is t t_is x out here = record {
   live = subst (λ (z : Ticket). names p.arena z ≡ true) (sym t_is) at.live;
   here = here;
   runs = subst (λ (z : Ticket). home p.arena z.slot ≡ 3) (sym t_is) at.runs;
-  stands = subst (λ (r : Request). StandsAt (shown r) w) (same_Some at.request x (sym at.here ∙ subst (λ (z : Ticket). record_in p.arena z.slot ≡ Some x) t_is here)) at.stands;
+  stands = subst (λ (r : Request). StandsAt (shown r) w)
+      (same_Some at.request x (sym at.here ∙ subst (λ (z : Ticket). record_in p.arena z.slot ≡ Some x) t_is here)) at.stands;
 }
   where
     at : IsOut p w
@@ -88,7 +92,8 @@ pub record OwnAt (p : Parts) (t : Ticket) (x : Request) (w : Piece) (bytes : Lis
   pub out : OutAt p t x own
   pub is : bytes ≡ result_of own
 
-pub own_at : (p v : Parts) → p ≡ v → (w : Piece) (t : Ticket) → t ≡ w.ticket → (x : Request) (bytes : List ℕ) → HasOwnResult v w bytes → record_in p.arena t.slot ≡ Some x → OwnAt p t x w bytes
+pub own_at : (p v : Parts) → p ≡ v → (w : Piece) (t : Ticket) → t ≡ w.ticket → (x : Request) (bytes : List ℕ)
+    → HasOwnResult v w bytes → record_in p.arena t.slot ≡ Some x → OwnAt p t x w bytes
 own_at p v e w t t_is x bytes has here = record {
   own = h.result.own;
   names = h.result.names;
@@ -97,7 +102,8 @@ own_at p v e w t t_is x bytes has here = record {
     live = subst (λ (z : Ticket). names p.arena z ≡ true) (sym t_is) h.live;
     here = here;
     runs = subst (λ (z : Ticket). home p.arena z.slot ≡ 3) (sym t_is) h.runs;
-    stands = subst (λ (r : Request). StandsAt (shown r) h.result.own) (same_Some h.request x (sym h.here ∙ subst (λ (z : Ticket). record_in p.arena z.slot ≡ Some x) t_is here)) h.result.stands;
+    stands = subst (λ (r : Request). StandsAt (shown r) h.result.own)
+        (same_Some h.request x (sym h.here ∙ subst (λ (z : Ticket). record_in p.arena z.slot ≡ Some x) t_is here)) h.result.stands;
   };
   is = h.result.is;
 }
@@ -126,7 +132,8 @@ region_into (Copy from into) other = other
 region_into (Recv of into) other = other
 
 module _ (ranks starts trace : ℕ) (a b : Slots Request) (q : Postings) (m : Instances) (t : Ticket) (x y : Request) (d : Made)
-    (sound : IsSound a) (core : IsCore (parts ranks starts trace a q m)) (out : OutAt (parts ranks starts trace a q m) t x d.piece) (wrote : Combined (shown x) (shown y) d.bytes) where
+    (sound : IsSound a) (core : IsCore (parts ranks starts trace a q m))
+    (out : OutAt (parts ranks starts trace a q m) t x d.piece) (wrote : Combined (shown x) (shown y) d.bytes) where
   abbrev s : StandsAt (shown x) d.piece
   s = out.stands
 
@@ -160,7 +167,8 @@ module _ (ranks starts trace : ℕ) (a b : Slots Request) (q : Postings) (m : In
     result_is = is ∙ (λ z. combined d.piece.op d.piece.ty (sym s.left_is z) (sym s.right_is z))
 
     once : ActsOnce shown (setting (parts ranks starts trace a q m)) a b q m m
-    once = compute_core shown (setting (parts ranks starts trace a q m)) a b q m t x on.to (Combine d.piece.op d.piece.ty s.left s.right s.into) on.point (number_of on.list) core
+    once = compute_core shown (setting (parts ranks starts trace a q m)) a b q m t x on.to
+        (Combine d.piece.op d.piece.ty s.left s.right s.into) on.point (number_of on.list) core
         (goes_on a b m t x bytes finished (Combine d.piece.op d.piece.ty s.left s.right s.into) out.live out.here (inr out.runs) s.next_is on) tt
         (on.buf ∙ ap (λ (l : List ℕ). written x.buffer s.into l) result_is)
 
@@ -170,7 +178,8 @@ module _ (ranks starts trace : ℕ) (a b : Slots Request) (q : Postings) (m : In
     moves : MovesOne (parts ranks starts trace a q m) (parts ranks starts trace b q m) t.slot
     moves = record {
       lists_is = on.placed_is
-          ∙ (ap (λ d. cond d a.lists (moved_back t.slot (number_of on.list) a.lists)) (ne_eqb (home a t.slot) (number_of on.list) (λ e. list_low x.comm on.list on.onto (sym e ∙ out.runs)))
+          ∙ (ap (λ d. cond d a.lists (moved_back t.slot (number_of on.list) a.lists))
+          (ne_eqb (home a t.slot) (number_of on.list) (λ e. list_low x.comm on.list on.onto (sym e ∙ out.runs)))
           ∙ ap (λ l. moved_back t.slot l a.lists) (sym (ap (λ (f : ℕ → ℕ). f t.slot) on.puts.homes ∙ put_same (home a) t.slot (number_of on.list))));
       others = λ j away. ap (λ (f : ℕ → Option Request). f j) on.puts.records ∙ put_other (record_in a) t.slot (Some on.to) j away;
     }
@@ -192,7 +201,9 @@ module _ (ranks starts trace : ℕ) (a b : Slots Request) (q : Postings) (m : In
           next_is = (s.left, s.right, s.next_is);
           buf = ap (λ (l : Live). l.buf) on.is ∙ on.buf;
         };
-        running_is = subst (λ (z : Ticket). sequence b.lists 3 ≡ taken_out z.slot (sequence a.lists 3)) t_is (on.puts.from 3 (λ e. list_low x.comm on.list on.onto (sym e)));
+        running_is =
+            subst (λ (z : Ticket). sequence b.lists 3 ≡ taken_out z.slot (sequence a.lists 3)) t_is
+            (on.puts.from 3 (λ e. list_low x.comm on.list on.onto (sym e)));
       },
     )
 
@@ -212,22 +223,26 @@ commits_own p v r e x w t bytes finished s s_is o c = subst (λ (z : Parts). Com
     runs = subst (λ (z : Ticket). home p.arena z.slot ≡ 3) o.t_is o.out.runs;
     stands = o.out.stands;
   };
-  steps = subst (λ (b : List ℕ). CommitSteps p r (record { piece = o.own; bytes = b }) s) o.is (commit_steps p r (record { piece = o.own; bytes = bytes }) finished s s_is c);
+  steps = subst (λ (b : List ℕ). CommitSteps p r (record { piece = o.own; bytes = b }) s) o.is
+      (commit_steps p r (record { piece = o.own; bytes = bytes }) finished s s_is c);
 })
 
 -- a piece that is out is that of its own operands
-module _ (p v : Parts) (e : p ≡ v) (x : Request) (w : Piece) (t : Ticket) (t_is : t ≡ w.ticket) (bytes : List ℕ) (o : OwnAt p t x w bytes) (out : IsOut v w) where
+module _ (p v : Parts) (e : p ≡ v) (x : Request) (w : Piece) (t : Ticket) (t_is : t ≡ w.ticket) (bytes : List ℕ)
+    (o : OwnAt p t x w bytes) (out : IsOut v w) where
   at : OutAt p t x w
   at = out_at p v e w w refl t t_is x out o.out.here
 
-  same_next : Some (Combine o.own.op o.own.ty o.out.stands.left o.out.stands.right o.out.stands.into) ≡ Some (Combine w.op w.ty at.stands.left at.stands.right at.stands.into)
+  same_next : Some (Combine o.own.op o.own.ty o.out.stands.left o.out.stands.right o.out.stands.into)
+      ≡ Some (Combine w.op w.ty at.stands.left at.stands.right at.stands.into)
   same_next = sym o.out.stands.next_is ∙ at.stands.next_is
 
   same_left : o.own.left ≡ w.left
   same_left = sym o.out.stands.left_is ∙ (ap (λ (a : Action). read_of x.buffer (left_in a o.out.stands.left)) (same_Some _ _ same_next) ∙ at.stands.left_is)
 
   same_right : o.own.right ≡ w.right
-  same_right = sym o.out.stands.right_is ∙ (ap (λ (a : Action). read_of x.buffer (right_in a o.out.stands.right)) (same_Some _ _ same_next) ∙ at.stands.right_is)
+  same_right =
+      sym o.out.stands.right_is ∙ (ap (λ (a : Action). read_of x.buffer (right_in a o.out.stands.right)) (same_Some _ _ same_next) ∙ at.stands.right_is)
 
   pub same_piece : o.own ≡ w
   same_piece = λ k. record {
@@ -240,11 +255,14 @@ module _ (p v : Parts) (e : p ≡ v) (x : Request) (w : Piece) (t : Ticket) (t_i
     right = same_right k;
   }
 
-pub steps_exactly : (p v r : Parts) (e : p ≡ v) (x : Request) (w : Piece) (t : Ticket) (t_is : t ≡ w.ticket) (bytes : List ℕ) (finished : Bool) (s : Stepped) → s ≡ stepped_by finished
-    → (o : OwnAt p t x w bytes) → Commits p r (record { piece = o.own; bytes = bytes }) finished → (d : Made) → d.piece ≡ w → d.bytes ≡ result_of d.piece → IsOut v w → CommitSteps v r d s
+pub steps_exactly : (p v r : Parts) (e : p ≡ v) (x : Request) (w : Piece) (t : Ticket) (t_is : t ≡ w.ticket) (bytes : List ℕ) (finished : Bool) (s : Stepped)
+    → s ≡ stepped_by finished
+    → (o : OwnAt p t x w bytes) → Commits p r (record { piece = o.own; bytes = bytes }) finished → (d : Made) → d.piece ≡ w
+    → d.bytes ≡ result_of d.piece → IsOut v w → CommitSteps v r d s
 steps_exactly p v r e x w t t_is bytes finished s s_is o c d is made out =
     subst (λ (z : Made). CommitSteps v r z s) same
-    (commit_steps v r (record { piece = o.own; bytes = bytes }) finished s s_is (subst (λ (z : Parts). Commits z r (record { piece = o.own; bytes = bytes }) finished) e c))
+    (commit_steps v r (record { piece = o.own; bytes = bytes }) finished s s_is
+    (subst (λ (z : Parts). Commits z r (record { piece = o.own; bytes = bytes }) finished) e c))
   where
     own_is : o.own ≡ d.piece
     own_is = same_piece p v e x w t t_is bytes o out ∙ sym is

@@ -210,7 +210,8 @@ module _ (p : Parts) (b : Slots Request) (r : Postings) (t : Ticket) (rank comm 
   pub init_progress : b.lists ≡ moved_back t.slot (4 + 3 * comm) p.arena.lists → KeepsProgress p (parts_of p b r p.matches) t.slot
   init_progress lists_is =
       keeps_progress p (parts_of p b r p.matches) t.slot t.generation 0 (4 + 3 * comm) (Some y) h.puts setting_kept sound
-      (free_low p.arena sound t h.free) (three_idle (4 + 3 * comm) comm refl) (three_free (home p.arena t.slot) (free_first p.arena sound t.slot h.free.first).1)
+      (free_low p.arena sound t h.free) (three_idle (4 + 3 * comm) comm refl)
+      (three_free (home p.arena t.slot) (free_first p.arena sound t.slot h.free.first).1)
       (left_without p.arena t.slot (free_spare p.arena sound t h.free)) lists_is
       (left_idle comm (shown y) (ap (λ (q : Live). q.comm) h.is))
 

@@ -61,7 +61,8 @@ rested a b c t x y comm sound live here is same weighs moves =
     written = one_written a sound t.slot (Named-names a t live).low y
 
     weighed : OneSlot a b t.slot t.generation 0 (Some y) (home a t.slot)
-    weighed = then_reweighed a (rewritten a t.slot y) t.slot (generation_of a t.slot) (weight_of a t.slot) (home a t.slot) (Some y) written b t.generation 0 weighs
+    weighed = then_reweighed a (rewritten a t.slot y) t.slot (generation_of a t.slot) (weight_of a t.slot) (home a t.slot)
+        (Some y) written b t.generation 0 weighs
 
     moved : OneSlot a c t.slot t.generation 0 (Some y) (number_of (Idle comm))
     moved = then_shifted a b t.slot t.generation 0 (home a t.slot) (Some y) weighed c t.generation (number_of (Idle comm)) moves

@@ -58,7 +58,8 @@ module _ (a b c : Slots Request) (m n : Instances) (t : Ticket) (x y : Request) 
       written = one_written a sound t.slot (Named-names a t named).low y
 
       weighed : OneSlot a b t.slot t.generation w (Some y) (home a t.slot)
-      weighed = then_reweighed a (rewritten a t.slot y) t.slot (generation_of a t.slot) (weight_of a t.slot) (home a t.slot) (Some y) written b t.generation w weighs
+      weighed = then_reweighed a (rewritten a t.slot y) t.slot (generation_of a t.slot) (weight_of a t.slot) (home a t.slot)
+          (Some y) written b t.generation w weighs
 
   pub begun_there : (w : ℕ) (list : ListName) (k : Key) (member : ℕ) → w ≡ lent y.plan.sig y.plan.n y.plan.member
       → PutsSlot (rewritten a t.slot y) b t.slot t.generation w (record_in (rewritten a t.slot y) t.slot) (home (rewritten a t.slot y) t.slot)

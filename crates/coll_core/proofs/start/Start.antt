@@ -114,8 +114,10 @@ module _ (p o w : Parts) (view : p ≡ w) (same : Unchanged o w) (arena : w.aren
     generation_is = generation_named p.arena t (subst (λ a. names a t ≡ true) (sym arena_is) live)
 
     idle : not (home p.arena t.slot == 4 + 3 * x.comm) ≡ false
-    idle = (start_passed (tables p) core.sound.paths core.sound.sound.base t.slot (listed (home p.arena t.slot) (shown x)) (request_here p t.slot x found) rank bytes
-        ((λ z. refusal (setting_is z) (machine (tables_is z)).state (Start rank (record { slot = t.slot; generation = generation_is z }) bytes)) ∙ sym accepted)).inactive
+    idle = (start_passed (tables p) core.sound.paths core.sound.sound.base t.slot (listed (home p.arena t.slot) (shown x))
+        (request_here p t.slot x found) rank bytes
+        ((λ z. refusal (setting_is z) (machine (tables_is z)).state (Start rank (record { slot = t.slot; generation = generation_is z }) bytes))
+        ∙ sym accepted)).inactive
 
     pub started_begins : IsArena p.arena → IfSome (record_in o.arena t.slot) (λ x. BeginsSchedule o (with p b n) t.slot (schedule (shown x)))
     started_begins sound =
@@ -128,4 +130,5 @@ module _ (p o w : Parts) (view : p ≡ w) (same : Unchanged o w) (arena : w.aren
         (λ e. list_low x.comm now.list now.onto (sym e)) (three_idle (home p.arena t.slot) x.comm (idle_by (home p.arena t.slot) x.comm idle))
         (left_inactive p.arena t.slot x found idle) now.lists_is
         now.to (begun_at (shown x) (record { round = now.to.round; index = now.to.index; buf = buf })) (mail p.matches (next_instance x))
-        refl now.begins.is (subst (λ (q : Live). Stands x.plan.n (mail p.matches (next_instance x)) (number_of now.list) q) now.begins.is now.stands) refl now.begins.over)))
+        refl now.begins.is (subst (λ (q : Live). Stands x.plan.n (mail p.matches (next_instance x)) (number_of now.list) q)
+        now.begins.is now.stands) refl now.begins.over)))

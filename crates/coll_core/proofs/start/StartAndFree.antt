@@ -1,5 +1,6 @@
 -- What a start and a free have tested, and what they change.
-use Rattle.std.proofs.Common.{◌≡◌, ◌∙◌, ◌<◌, ◌≤◌, ◌++◌, ◌==◌, ◌+◌, ◌*◌, ℕ, Bool, true, false, List, Option, Some, None, ap, refl, sym, subst, arith, not, is_some, eq-eqb}
+use Rattle.std.proofs.Common.{◌≡◌, ◌∙◌, ◌<◌, ◌≤◌, ◌++◌, ◌==◌, ◌+◌, ◌*◌, ℕ, Bool, true, false, List, Option, Some, None, ap, refl, sym, subst, arith}
+use Rattle.std.proofs.Common.{not, is_some, eq-eqb}
 use Rattle.std.specs.Prelude.{length, nat_lt, option_and_then, slice_get}
 use Rattle.std.specs.Option.{option_or}
 use Rattle.std.proofs.lemmas.Option.{none-some}
@@ -15,7 +16,8 @@ use Rattle.coll_lists.specs.Moves.{moved_back}
 use Rattle.coll_kinds.specs.declared.refusal.Refusal.{Refusal}
 use Rattle.coll_kinds.specs.declared.refusal.Refusal.TheVariants.{Active, BadLength, NotPersistent, NotYours, Stale, StartsUsed}
 use Rattle.coll_kinds.specs.declared.signature.Signature.{Signature}
-use Rattle.coll_machine.specs.Common.{size, Free, Nothing, Start, MachineStep, first_of, idle_refusals, naming_refusals, refusal, start_refusals, unless, wrong_length, found}
+use Rattle.coll_machine.specs.Common.{size, Free, Nothing, Start, MachineStep, first_of, idle_refusals, naming_refusals, refusal, start_refusals}
+use Rattle.coll_machine.specs.Common.{unless, wrong_length, found}
 use Rattle.coll_machine.specs.States.{Request as Asked}
 use Rattle.coll_kinds.specs.Common.{given_len, mode_number}
 use Rattle.coll_kinds.specs.declared.kind.Mode.TheVariants.{Persistent}
@@ -101,7 +103,8 @@ own_refusal p x bytes = option_or (wrong_length x.plan.sig x.plan.n x.plan.membe
 own_by : (p : Parts) (x : Request) (bytes : List ℕ) (n : ℕ) (sig : Option Signature) → n ≡ x.plan.n → sig ≡ Some x.plan.sig
     → option_or (option_and_then (λ sig. wrong_length sig n x.plan.member bytes) sig) (option_or (unless (nat_lt x.starts p.starts) StartsUsed) None)
     ≡ own_refusal p x bytes
-own_by p x bytes n sig e f = λ z. option_or (option_and_then (λ sig. wrong_length sig (e z) x.plan.member bytes) (f z)) (option_or (unless (nat_lt x.starts p.starts) StartsUsed) None)
+own_by p x bytes n sig e f =
+    λ z. option_or (option_and_then (λ sig. wrong_length sig (e z) x.plan.member bytes) (f z)) (option_or (unless (nat_lt x.starts p.starts) StartsUsed) None)
 
 pub start_refused : (p : Parts) (rank : ℕ) (t : Ticket) (bytes : List ℕ) (x : Request) → IsCore p
     → None ≡ refusal (setting p) (seen p).state (Free rank t) → names p.arena t ≡ true → record_in p.arena t.slot ≡ Some x
@@ -112,7 +115,8 @@ start_refused p rank t bytes x core free live_is is =
     let here = live p t.slot x is in
     past_free (found (seen p).state t) rank (first_of (start_refusals (setting p) (seen p).state bytes (found (seen p).state t))) (sym free)
     ∙ (ap (λ q. first_of (start_refusals (setting p) (seen p).state bytes q)) (found_some p t x live_is is)
-    ∙ own_by p x bytes (size (setting p) x.comm) (slice_get ((seen p).state.posts x.comm x.plan.member) x.place) (sym (base.sized t.slot q here)) (base.own t.slot q here))
+    ∙ own_by p x bytes (size (setting p) x.comm) (slice_get ((seen p).state.posts x.comm x.plan.member) x.place)
+    (sym (base.sized t.slot q here)) (base.own t.slot q here))
 
 wrong_by : (g want len : ℕ) (rest : Option Refusal) (fits : Bool) → fits ≡ (g == len) → want ≡ g → (len ≡ want → ⊥)
     → Some (BadLength want len) ≡ option_or (unless fits (BadLength g len)) rest
@@ -151,9 +155,11 @@ module _ (p : Parts) (x : Request) (bytes : List ℕ) (want : ℕ) (is : want �
   pub starts_used : length bytes ≡ want → p.starts ≤ x.starts → Some StartsUsed ≡ own_refusal p x bytes
   starts_used same h =
       used_by x.starts p.starts _ refl h
-      ∙ sym (right_by (given_len x.plan.sig x.plan.n x.plan.member) (length bytes) (option_or (unless (nat_lt x.starts p.starts) StartsUsed) None) _ refl (sym is ∙ sym same))
+      ∙ sym (right_by (given_len x.plan.sig x.plan.n x.plan.member) (length bytes)
+      (option_or (unless (nat_lt x.starts p.starts) StartsUsed) None) _ refl (sym is ∙ sym same))
 
   pub may_start : length bytes ≡ want → x.starts < p.starts → None ≡ own_refusal p x bytes
   may_start same h =
       unused_by x.starts p.starts _ refl h
-      ∙ sym (right_by (given_len x.plan.sig x.plan.n x.plan.member) (length bytes) (option_or (unless (nat_lt x.starts p.starts) StartsUsed) None) _ refl (sym is ∙ sym same))
+      ∙ sym (right_by (given_len x.plan.sig x.plan.n x.plan.member) (length bytes)
+      (option_or (unless (nat_lt x.starts p.starts) StartsUsed) None) _ refl (sym is ∙ sym same))

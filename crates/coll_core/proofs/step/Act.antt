@@ -1,5 +1,6 @@
 -- A request that did one action: the engine after it.
-use Rattle.std.proofs.Common.{◌≡◌, ◌≢◌, ◌∙◌, ◌<◌, ◌≤◌, length, ◌+◌, ◌*◌, ◌==◌, ◌⊎◌, inl, inr, ℕ, suc, Bool, true, false, List, Option, Some, ap, refl, sym, subst, arith, eq-eqb, ne_eqb}
+use Rattle.std.proofs.Common.{◌≡◌, ◌≢◌, ◌∙◌, ◌<◌, ◌≤◌, length, ◌+◌, ◌*◌, ◌==◌, ◌⊎◌, inl, inr, ℕ, suc, Bool, true, false, List, Option, Some, ap, refl}
+use Rattle.std.proofs.Common.{sym, subst, arith, eq-eqb, ne_eqb}
 use Rattle.std.specs.Prelude.{option_map}
 use Rattle.std.proofs.lemmas.Bool.{cases_eq, false≢true}
 use Rattle.std.proofs.lemmas.Option.{none-some, same_Some}

@@ -41,12 +41,14 @@ on_err (Err e) P p = p
 
 pub same_arena : (a : Slots Request) (i : ℕ) (x : Request) → record_in a i ≡ Some x → rewritten a i x ≡ a
 same_arena a i x here =
-    ap (λ (rs : List (Option Request)). record { generations = a.generations; weights = a.weights; records = rs; lists = a.lists; comms = a.comms; wear = a.wear })
+    ap (λ (rs : List (Option Request)). record
+    { generations = a.generations; weights = a.weights; records = rs; lists = a.lists; comms = a.comms; wear = a.wear })
     (ap (λ (o : Option Request). slice_set a.records i o) (sym here) ∙ set-get_or a.records i None)
 
 -- ---- an action with its write
 
-module _ (ranks starts trace : ℕ) (a b : Slots Request) (q : Postings) (m n : Instances) (t : Ticket) (x : Request) (act : Action) (bytes : List ℕ) (finished : Bool) where
+module _ (ranks starts trace : ℕ) (a b : Slots Request) (q : Postings) (m n : Instances) (t : Ticket) (x : Request)
+    (act : Action) (bytes : List ℕ) (finished : Bool) where
   pub acted : IsActingAt (parts ranks starts trace a q m) t act x → (g : Gone a b n t x bytes finished)
       → ActsOnce shown (setting (parts ranks starts trace a q m)) a b q m n
       → IsCore (parts ranks starts trace b q n) × Acts (parts ranks starts trace a q m) (parts ranks starts trace b q n) finished
@@ -66,7 +68,8 @@ module _ (ranks starts trace : ℕ) (a b : Slots Request) (q : Postings) (m n : 
       off : (l : ℕ) → l ≡ 2 → 3 ≢ l
       off l e f = absurd (omega (arith, e, f))
 
-pub computed : (ranks starts trace : ℕ) (a b : Slots Request) (q : Postings) (m : Instances) (t : Ticket) (x y : Request) (act : Action) (bytes : List ℕ) (finished : Bool)
+pub computed : (ranks starts trace : ℕ) (a b : Slots Request) (q : Postings) (m : Instances) (t : Ticket) (x y : Request)
+    (act : Action) (bytes : List ℕ) (finished : Bool)
     → IsSound a → IsCore (parts ranks starts trace a q m) → IsActingAt (parts ranks starts trace a q m) t act x
     → IsLocal act → bytes ≡ wrote (λ from. []) x.buffer act x.buffer → Rewrites x y bytes
     → HasAdvanced (rewritten a t.slot y) b m t finished
@@ -84,7 +87,8 @@ same_written a i x ws here e =
     ap (λ (v : List ℕ). rewritten a i (record x { buffer = v })) e
     ∙ same_arena a i x here
 
-pub received : (ranks starts trace : ℕ) (a b : Slots Request) (q : Postings) (m n : Instances) (t : Ticket) (x y : Request) (of : ℕ) (into : Region) (message bytes : List ℕ) (finished : Bool)
+pub received : (ranks starts trace : ℕ) (a b : Slots Request) (q : Postings) (m n : Instances) (t : Ticket) (x y : Request)
+    (of : ℕ) (into : Region) (message bytes : List ℕ) (finished : Bool)
     → IsSound a → IsCore (parts ranks starts trace a q m) → IsActingAt (parts ranks starts trace a q m) t (Recv of into) x
     → KeepsContributions m n
     → mail m (key (shown x)) of x.plan.member x.round ≡ Some message

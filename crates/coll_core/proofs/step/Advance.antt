@@ -94,7 +94,8 @@ gone_on a b n t x y list finished sound live here goes stands onto puts stays pl
   list = list;
   here = here;
   puts = puts_written a b t.slot t.generation (weight_of a t.slot) (number_of list) y (Some y) sound low
-      (subst (λ (o : Option Request). PutsSlot (rewritten a t.slot y) b t.slot t.generation (weight_of a t.slot) o (number_of list)) (record_written a t.slot y sound low) puts);
+      (subst (λ (o : Option Request). PutsSlot (rewritten a t.slot y) b t.slot t.generation (weight_of a t.slot) o (number_of list))
+      (record_written a t.slot y sound low) puts);
   stays = λ e. ap (λ (z : Slots Request). z.lists) (stays e);
   placed_is = place;
   is = goes.is;

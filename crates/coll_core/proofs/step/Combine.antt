@@ -55,7 +55,11 @@ module _ (ranks starts trace : ℕ) (a b : Slots Request) (q : Postings) (m : In
         puts = one_shifted a b t.slot t.generation list x here puts;
       }
 
-      kept : tabled_core.IsCore shown (setting (parts ranks starts trace a q m)) b q m × (machine (tabled.tables shown (setting (parts ranks starts trace a q m)) b q m) ≡ machine (tabled.tables shown (setting (parts ranks starts trace a q m)) a q m)) × (actions_left (tabled.tables shown (setting (parts ranks starts trace a q m)) b q m) ≡ actions_left (tabled.tables shown (setting (parts ranks starts trace a q m)) a q m))
+      kept : tabled_core.IsCore shown (setting (parts ranks starts trace a q m)) b q m
+          × (machine (tabled.tables shown (setting (parts ranks starts trace a q m)) b q m)
+          ≡ machine (tabled.tables shown (setting (parts ranks starts trace a q m)) a q m))
+          × (actions_left (tabled.tables shown (setting (parts ranks starts trace a q m)) b q m)
+          ≡ actions_left (tabled.tables shown (setting (parts ranks starts trace a q m)) a q m))
       kept = move_core shown (setting (parts ranks starts trace a q m)) a b q m t x list core moves
 
 pub is_out_now : (ranks starts trace : ℕ) (a b : Slots Request) (q : Postings) (m : Instances) (t : Ticket) (x : Request) (w : Piece) → w.ticket ≡ t
@@ -64,8 +68,11 @@ pub is_out_now : (ranks starts trace : ℕ) (a b : Slots Request) (q : Postings)
     → IsOut (parts ranks starts trace b q m) w
 is_out_now ranks starts trace a b q m t x w e live here stands puts = record {
   request = x;
-  live = subst (λ (u : Ticket). names b u ≡ true) (sym e) (names_all b t (subst (λ n. t.slot < n) (sym puts.count_is) named.low) (three there) (ap (λ (f : ℕ → ℕ). f t.slot) puts.generations ∙ put_same (generation_of a) t.slot t.generation));
-  here = ap (λ (u : Ticket). record_in b u.slot) e ∙ (ap (λ (f : ℕ → Option Request). f t.slot) puts.records ∙ (put_same (record_in a) t.slot (record_in a t.slot) ∙ here));
+  live = subst (λ (u : Ticket). names b u ≡ true) (sym e)
+      (names_all b t (subst (λ n. t.slot < n) (sym puts.count_is) named.low) (three there)
+      (ap (λ (f : ℕ → ℕ). f t.slot) puts.generations ∙ put_same (generation_of a) t.slot t.generation));
+  here = ap (λ (u : Ticket). record_in b u.slot) e
+      ∙ (ap (λ (f : ℕ → Option Request). f t.slot) puts.records ∙ (put_same (record_in a) t.slot (record_in a t.slot) ∙ here));
   runs = ap (λ (u : Ticket). home b u.slot) e ∙ there;
   stands = stands;
 }
@@ -95,5 +102,6 @@ hands_out ranks starts trace a b q m t x w e core first here stands puts is =
       },
     )
 
-pub first_filled : (p v : Parts) (t : Ticket) (x : Request) → p ≡ v → IsCore p → IsFirst v.arena 2 t → record_in p.arena t.slot ≡ Some x → length x.buffer ≡ (schedule (shown x)).size
+pub first_filled : (p v : Parts) (t : Ticket) (x : Request) → p ≡ v → IsCore p → IsFirst v.arena 2 t
+    → record_in p.arena t.slot ≡ Some x → length x.buffer ≡ (schedule (shown x)).size
 first_filled p v t x e core first here = (acting p core t.slot x here (ap (λ (z : Parts). home z.arena t.slot) e ∙ first.home_is)).filled

@@ -42,7 +42,8 @@ first_stays a b i generation weight list o on puts stays x first still = go (cas
 pub first_before : (a b : Slots Request) (i comm : ℕ) → IsSound a → home a i ≡ 5 + 3 * comm → b ≡ shifted a i 2
     → IfSome (first_in (sequence a.lists 2)) (λ x. first_in (sequence b.lists 2) ≡ Some x)
 first_before a b i comm sound waits is =
-    if_some (first_in (sequence a.lists 2)) _ (λ x first. ap first_in pushed ∙ (first_in-append (sequence a.lists 2) (i ∷ []) (slice_get_within (sequence a.lists 2) 0 x first) ∙ first))
+    if_some (first_in (sequence a.lists 2)) _
+    (λ x first. ap first_in pushed ∙ (first_in-append (sequence a.lists 2) (i ∷ []) (slice_get_within (sequence a.lists 2) 0 x first) ∙ first))
   where
     pushed : sequence b.lists 2 ≡ sequence a.lists 2 ++ i ∷ []
     pushed = ap (λ (z : Slots Request). sequence z.lists 2) is

@@ -1,5 +1,6 @@
 -- A Send with its delivery.
-use Rattle.std.proofs.Common.{◌≡◌, ◌≢◌, ◌∙◌, ◌<◌, ◌+◌, ◌*◌, ◌==◌, ◌&&◌, ◌⊎◌, nat_lt, inl, inr, ℕ, Bool, true, false, List, Option, Some, None, ap, refl, sym, subst, arith, cond, ne_eqb}
+use Rattle.std.proofs.Common.{◌≡◌, ◌≢◌, ◌∙◌, ◌<◌, ◌+◌, ◌*◌, ◌==◌, ◌&&◌, ◌⊎◌, nat_lt, inl, inr, ℕ, Bool, true, false, List, Option, Some, None, ap}
+use Rattle.std.proofs.Common.{refl, sym, subst, arith, cond, ne_eqb}
 use Rattle.std.specs.Prelude.{IfSome, option_map}
 use Rattle.std.proofs.lemmas.Bool.{and_from, cases_eq, eq-eqb}
 use Rattle.std.proofs.lemmas.Option.{IfSome_then, none-some}
@@ -37,7 +38,8 @@ use Rattle.coll_core.proofs.step.NextOfReady.{first_stays}
 
 -- ---- what the calls ask for
 
-module _ (p : Parts) (t : Ticket) (x : Request) (to : ℕ) (from : Region) (core : IsCore p) (at : IsActingAt p t (Send to from) x) (k : Key) (member : ℕ) (k_is : k ≡ key (shown x)) (member_is : member ≡ x.plan.member) where
+module _ (p : Parts) (t : Ticket) (x : Request) (to : ℕ) (from : Region) (core : IsCore p) (at : IsActingAt p t (Send to from) x)
+    (k : Key) (member : ℕ) (k_is : k ≡ key (shown x)) (member_is : member ≡ x.plan.member) where
   pub has_given : given p.matches k member ≢ None
   has_given none = (acting p core t.slot x at.here at.on_ready).gave (sym (λ z. given p.matches (k_is z) (member_is z)) ∙ none)
 
@@ -135,11 +137,13 @@ stands_sent m n k from to round message mails none = none-some message (sym none
     there =
         ap (λ f. f k from to round) mails
         ∙ ap (λ f. f from to round) (put_key_at (mail m) k (put_mail (mail m k) from to round (Some message)))
-        ∙ ap (λ b. cond b (Some message) (mail m k from to round)) (and_from _ _ (eq-eqb from from refl) (and_from _ _ (eq-eqb to to refl) (eq-eqb round round refl)))
+        ∙ ap (λ b. cond b (Some message) (mail m k from to round))
+        (and_from _ _ (eq-eqb from from refl) (and_from _ _ (eq-eqb to to refl) (eq-eqb round round refl)))
 
 -- ---- both
 
-pub sent : (ranks starts trace : ℕ) (a b d : Slots Request) (q : Postings) (m n : Instances) (t : Ticket) (x : Request) (to : ℕ) (from : Region) (k : Key) (member : ℕ) (message : List ℕ) (finished : Bool)
+pub sent : (ranks starts trace : ℕ) (a b d : Slots Request) (q : Postings) (m n : Instances) (t : Ticket) (x : Request) (to : ℕ)
+    (from : Region) (k : Key) (member : ℕ) (message : List ℕ) (finished : Bool)
     → IsCore (parts ranks starts trace a q m) → IsActingAt (parts ranks starts trace a q m) t (Send to from) x
     → k ≡ key (shown x) → member ≡ x.plan.member → message ≡ read_of x.buffer from
     → KeepsContributions m n

@@ -43,7 +43,9 @@ impl Core {
         ensures none { IfOk result (λ found. IsNone found → self.new ≡ self.old) }
         ensures setting { setting self.new ≡ setting self.old }
         ensures waits { IfOk result (λ found. IsNone found → MachineStep (setting self.old) (seen self.old) (Retire rank ticket) Nothing (seen self.new)) }
-        ensures completes { IfOk result (λ found. IfSome found (λ o. MachineStep (setting self.old) (seen self.old) (Retire rank ticket) (Completed o.rank o.comm o.place o.start o.bytes) (seen self.new))) }
+        ensures completes { IfOk result
+            (λ found. IfSome found (λ o. MachineStep (setting self.old) (seen self.old) (Retire rank ticket)
+            (Completed o.rank o.comm o.place o.start o.bytes) (seen self.new))) }
         ensures rank { IfOk result (λ found. IfSome found (λ o. o.rank ≡ rank)) }
         ensures progress { IfOk result (λ found. IfSome found (λ o. KeepsProgress self.old self.new ticket.slot)) }
     {
@@ -70,7 +72,9 @@ impl Core {
         ensures none { IfOk result (λ found. IsNone found → self.new ≡ self.old) }
         ensures setting { setting self.new ≡ setting self.old }
         ensures waits { IfOk result (λ found. IsNone found → MachineStep (setting self.old) (seen self.old) (Retire rank ticket) Nothing (seen self.new)) }
-        ensures completes { IfOk result (λ found. IfSome found (λ r. MachineStep (setting self.old) (seen self.old) (Retire rank ticket) (Completed r.0.rank r.0.comm r.0.place r.0.start r.0.bytes) (seen self.new))) }
+        ensures completes { IfOk result
+            (λ found. IfSome found (λ r. MachineStep (setting self.old) (seen self.old) (Retire rank ticket)
+            (Completed r.0.rank r.0.comm r.0.place r.0.start r.0.bytes) (seen self.new))) }
         ensures rank { IfOk result (λ found. IfSome found (λ r. r.0.rank ≡ rank)) }
         ensures same { IfOk result (λ found. IfSome found (λ r. r.1 ≡ r.0.bytes)) }
         ensures progress { IfOk result (λ found. IfSome found (λ r. KeepsProgress self.old self.new ticket.slot)) }
@@ -93,7 +97,9 @@ impl Core {
         ensures none { IfOk result (λ found. IsNone found → self.new ≡ self.old) }
         ensures setting { setting self.new ≡ setting self.old }
         ensures waits { IfOk result (λ found. IsNone found → MachineStep (setting self.old) (seen self.old) (Retire rank ticket) Nothing (seen self.new)) }
-        ensures completes { IfOk result (λ found. IfSome found (λ r. MachineStep (setting self.old) (seen self.old) (Retire rank ticket) (Completed r.0.rank r.0.comm r.0.place r.0.start r.0.bytes) (seen self.new))) }
+        ensures completes { IfOk result
+            (λ found. IfSome found (λ r. MachineStep (setting self.old) (seen self.old) (Retire rank ticket)
+            (Completed r.0.rank r.0.comm r.0.place r.0.start r.0.bytes) (seen self.new))) }
         ensures rank { IfOk result (λ found. IfSome found (λ r. r.0.rank ≡ rank)) }
         ensures room { IfOk result (λ found. IfSome found (λ r. HasRoom r.1 (length r.0.bytes))) }
         ensures progress { IfOk result (λ found. IfSome found (λ r. KeepsProgress self.old self.new ticket.slot)) }

@@ -14,7 +14,8 @@ impl Core {
     /// Mismatch it is the whole signature of the member that the refusal names, with an
     /// allgatherv's counts, which the refusal leaves out. Takes constant time.
     pub fn signature(&self, comm: u32, place: u32) -> Option<&Signature>
-        ensures { option_map (λ sig. sig.now) result ≡ option_map (λ first. first.1) (first_there ((seen self.now).state.posts comm) place 0 (size (setting self.now) comm)) }
+        ensures { option_map (λ sig. sig.now) result
+            ≡ option_map (λ first. first.1) (first_there ((seen self.now).state.posts comm) place 0 (size (setting self.now) comm)) }
     {
         self.queues.signature(comm, place)
     }

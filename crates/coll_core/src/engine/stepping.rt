@@ -14,7 +14,8 @@ ghost use Rattle.coll_core.specs.declared.stepped.Stepped.TheVariants.{Quiet};
 ghost use Rattle.coll_core.specs.Cores.{seen, setting};
 ghost use Rattle.coll_core.specs.Advancing.{Brings, CanAdvance, IsReceiver, HasAdvanced, HaveLists, IsSent, NoReceiver, is_end};
 ghost use Rattle.coll_core.specs.Requests.{shown};
-ghost use Rattle.coll_core.specs.Steps.{Acts, AwaitsWork, CombinesFirst, CombinesNext, CombinesShort, Finishings, HandsOut, IsActing, IsWork, Makes, Steps, left, placed, ready, running};
+ghost use Rattle.coll_core.specs.Steps.{Acts, AwaitsWork, CombinesFirst, CombinesNext, CombinesShort, Finishings, HandsOut, IsActing, IsWork, Makes};
+ghost use Rattle.coll_core.specs.Steps.{Steps, left, placed, ready, running};
 ghost use Rattle.coll_core.specs.Works.{IsShort};
 
 use crate::engine::Core;
@@ -284,7 +285,8 @@ fn place(arena: &mut Arena<Request>, ticket: Ticket, list: ListName)
     requires live { names arena.old ticket ≡ true }
     requires live_list { 2 ≤ number_of list }
     requires list_in { number_of list < list_count arena.old.comms }
-    ensures puts { PutsSlot arena.old arena.new ticket.slot ticket.generation (weight_of arena.old ticket.slot) (record_in arena.old ticket.slot) (number_of list) }
+    ensures puts { PutsSlot arena.old arena.new ticket.slot ticket.generation (weight_of arena.old ticket.slot)
+        (record_in arena.old ticket.slot) (number_of list) }
     ensures stays { home arena.old ticket.slot ≡ number_of list → arena.new ≡ arena.old }
     ensures placed { arena.new.lists ≡ placed ticket.slot (number_of list) arena.old.lists }
 {

@@ -21,8 +21,10 @@ use Rattle.coll_refinement.proofs.tables.Accepted.{Passed, inited_passed, posted
 use Rattle.coll_refinement.proofs.engine.Calls.{few, number_is}
 use Rattle.coll_refinement.proofs.engine.Tests.{init_refused, post_refused}
 
-module _ {R : Type 0} (shown : R → Live) (g : Setting) (a : Slots R) (q : Postings) (m : Instances) (rank comm : ℕ) (plan : Planned) (c : IsCore shown g a q m) where
-  may_enter : (mode : Mode) → Passed (tables shown g a q m) comm rank mode plan → member_refusal q comm rank ≡ None → judge_refusal q comm rank plan.sig ≡ None → full_refusal a ≡ None → MayEnter g a q rank comm mode plan
+module _ {R : Type 0} (shown : R → Live) (g : Setting) (a : Slots R) (q : Postings) (m : Instances) (rank comm : ℕ)
+    (plan : Planned) (c : IsCore shown g a q m) where
+  may_enter : (mode : Mode) → Passed (tables shown g a q m) comm rank mode plan → member_refusal q comm rank ≡ None
+      → judge_refusal q comm rank plan.sig ≡ None → full_refusal a ≡ None → MayEnter g a q rank comm mode plan
   may_enter mode p there judged room = record {
     member_there = there;
     judged = judged;
@@ -41,9 +43,11 @@ entry_core {R} shown g a q m rank comm plan c s = (of_post, of_init)
     v : Tables
     v = tables shown g a q m
 
-    of_post : (bytes : List ℕ) → refusal g (state v) (Post rank comm plan bytes) ≡ None → MayEnter g a q rank comm Once plan × (length bytes ≡ given_len plan.sig plan.n plan.member)
+    of_post : (bytes : List ℕ) → refusal g (state v) (Post rank comm plan bytes) ≡ None
+        → MayEnter g a q rank comm Once plan × (length bytes ≡ given_len plan.sig plan.n plan.member)
     of_post bytes e =
-        let h = all_none (entry_refusals q rank comm Once plan ++ wrong_length plan.sig plan.n plan.member bytes ∷ full_refusal a ∷ []) (sym (post_refused shown g a q m rank comm plan bytes c s) ∙ e) in
+        let h = all_none (entry_refusals q rank comm Once plan
+        ++ wrong_length plan.sig plan.n plan.member bytes ∷ full_refusal a ∷ []) (sym (post_refused shown g a q m rank comm plan bytes c s) ∙ e) in
         let p = posted_passed v comm rank plan bytes e in
         (may_enter shown g a q m rank comm plan c Once p.0 h.0 h.1.1.1.1.0 h.1.1.1.1.1.1.0, p.1 ∙ ap (λ n. given_len plan.sig n plan.member) (sym p.0.n_is))
 

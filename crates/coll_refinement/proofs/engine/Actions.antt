@@ -28,7 +28,8 @@ use Rattle.coll_refinement.proofs.engine.Statements.{ActsOnce, ComputeCore, Rece
 use Rattle.coll_refinement.proofs.tables.LiveRequests.{put_self}
 use Rattle.coll_refinement.proofs.tables.Actions.{going, compute_keeps, receive_keeps, send_keeps, rehome_keeps}
 use Rattle.coll_refinement.proofs.tables.ActionsLeft.{acts_lower}
-use Rattle.coll_refinement.proofs.engine.Slots.{core_of, home_away, home_here, listed_active, listed_stands, record_here, set_of, shown_requests, shown_same, weights_of}
+use Rattle.coll_refinement.proofs.engine.Slots.{core_of, home_away, home_here, listed_active, listed_stands, record_here, set_of, shown_requests}
+use Rattle.coll_refinement.proofs.engine.Slots.{shown_same, weights_of}
 use Rattle.coll_sched.proofs.Counts.{put_cases}
 use Rattle.coll_kinds.proofs.Puts.{put_other}
 use Rattle.std.proofs.lemmas.Bool.{cases_eq}
@@ -38,14 +39,17 @@ going_on l c (inl e) x = omega arith
 going_on l c (inr e) x = omega arith
 
 -- a live request as the tables show it, where it is active
-pub shown_here : {R : Type 0} (shown : R → Live) (a : Slots R) (i : ℕ) (x : R) → record_in a i ≡ Some x → (shown x).active ≡ true → home a i ≢ 4 + 3 * (shown x).comm → seen (home a i) (option_map shown (record_in a i)) ≡ Some (shown x)
+pub shown_here : {R : Type 0} (shown : R → Live) (a : Slots R) (i : ℕ) (x : R) → record_in a i ≡ Some x → (shown x).active ≡ true
+    → home a i ≢ 4 + 3 * (shown x).comm → seen (home a i) (option_map shown (record_in a i)) ≡ Some (shown x)
 shown_here shown a i x e t d = ap (λ (o : Option _). seen (home a i) (option_map shown o)) e ∙ ap Some (listed_active (home a i) (shown x) d t)
 
 -- a slot weighs what its request lends
-pub weighs : {R : Type 0} (shown : R → Live) (g : Setting) (a : Slots R) (q : Postings) (m : Instances) → IsCore shown g a q m → (i : ℕ) (x : Live) → (tables shown g a q m).request i ≡ Some x → weight_of a i ≡ weight x
+pub weighs : {R : Type 0} (shown : R → Live) (g : Setting) (a : Slots R) (q : Postings) (m : Instances) → IsCore shown g a q m
+    → (i : ℕ) (x : Live) → (tables shown g a q m).request i ≡ Some x → weight_of a i ≡ weight x
 weighs shown g a q m c i x e = ap (λ (f : ℕ → ℕ). f i) c.weights ∙ ap weight_by e
 
-module _ {R : Type 0} (shown : R → Live) (g : Setting) (a b : Slots R) (q : Postings) (m n : Instances) (t : Ticket) (x y : R) (act : Action) (o : Progress) (list : ℕ)
+module _ {R : Type 0} (shown : R → Live) (g : Setting) (a b : Slots R) (q : Postings) (m n : Instances) (t : Ticket) (x y : R)
+    (act : Action) (o : Progress) (list : ℕ)
     (c : IsCore shown g a q m) (h : Advances shown a b n t x y act o list) (k : KeepsContributions m n) where
   abbrev v : Tables
   v = tables shown g a q m
@@ -77,7 +81,8 @@ module _ {R : Type 0} (shown : R → Live) (g : Setting) (a b : Slots R) (q : Po
     acted = λ z. record {
       setting = g;
       generation = generations z;
-      request = (shown_requests shown g a b t.slot t.generation (weight_of a t.slot) list (Some y) h.puts ∙ ap (λ (r : Live). put v.request t.slot (Some r)) lies_as) z;
+      request = (shown_requests shown g a b t.slot t.generation (weight_of a t.slot) list (Some y) h.puts
+          ∙ ap (λ (r : Live). put v.request t.slot (Some r)) lies_as) z;
       home = home b;
       posts = posts q;
       signed = signed q;
@@ -109,7 +114,8 @@ module _ {R : Type 0} (shown : R → Live) (g : Setting) (a b : Slots R) (q : Po
       (λ l z e. c.sizes l z (ap (λ (f : Key → Option ℕ). f l) (sym k.members) ∙ e)) weighs_on s
 
   -- from what the tables' laws say of them
-  pub once : (mails : Key → Mail) → (λ (l : Key). mail n l) ≡ mails → IsSound (acting v t.slot p o mails (home b)) → MayFinish g (machine v) (machine (acting v t.slot p o mails (home b))) → ActsOnce shown g a b q m n
+  pub once : (mails : Key → Mail) → (λ (l : Key). mail n l) ≡ mails → IsSound (acting v t.slot p o mails (home b))
+      → MayFinish g (machine v) (machine (acting v t.slot p o mails (home b))) → ActsOnce shown g a b q m n
   once mails e s step = record {
     core = core_on (subst (λ (u : Tables). IsSound u) (sym (acted mails e)) s);
     steps = subst (λ (u : Tables). MayFinish g (machine v) (machine u)) (sym (acted mails e)) step;
@@ -122,14 +128,17 @@ same_contributions m = record { members = refl; given = refl; seats = refl }
 pub compute_core : {R : Type 0} → ComputeCore R
 compute_core {R} shown g a b q m t x y act o list c h loc buf =
     let k = same_contributions m in
-    let both = compute_keeps (v shown g a b q m m t x y act o list c h k) t.slot (shown x) act o (home b) c.sound (acts shown g a b q m m t x y act o list c h k) loc buf (mine shown g a b q m m t x y act o list c h k (λ l. mail m l) refl) in
+    let both = compute_keeps (v shown g a b q m m t x y act o list c h k) t.slot (shown x) act o (home b) c.sound
+    (acts shown g a b q m m t x y act o list c h k) loc buf (mine shown g a b q m m t x y act o list c h k (λ l. mail m l) refl) in
     once shown g a b q m m t x y act o list c h k (λ l. mail m l) refl both.0 both.1
 
 pub receive_core : {R : Type 0} → ReceiveCore R
 receive_core {R} shown g a b q m n t x y of into bytes o list c h k there mails buf =
     let act = Recv of into in
     let e : (λ (l : Key). mail n l) ≡ received (tables shown g a q m) (shown x) of = λ z l. mails z l in
-    let both = receive_keeps (tables shown g a q m) t.slot (shown x) of into bytes o (home b) c.sound (acts shown g a b q m n t x y act o list c h k) there buf (mine shown g a b q m n t x y act o list c h k (received (tables shown g a q m) (shown x) of) e) in
+    let both = receive_keeps (tables shown g a q m) t.slot (shown x) of into bytes o (home b) c.sound
+    (acts shown g a b q m n t x y act o list c h k) there buf
+    (mine shown g a b q m n t x y act o list c h k (received (tables shown g a q m) (shown x) of) e) in
     once shown g a b q m n t x y act o list c h k (received (tables shown g a q m) (shown x) of) e both.0 both.1
 
 -- ---- a Send
@@ -144,15 +153,27 @@ queue_called n l old new p e (queued of into t f nx none) (running op ty a b int
 queue_called n l old new p e (queued of into t f nx none) (queued of2 into2 u k nx2 none2) = absurd (omega arith)
 queue_called n l old new p e (queued of into t f nx none) (done u k r) = absurd (omega arith)
 queue_called n l old new p e (queued of into t f nx none) (idle u k r) = absurd (omega arith)
-queue_called n l old new p e (queued of into t f nx none) (ready a u k nx2 d) = record { of = of; into = into; active = t; on_queue = e; next_is = nx; came = subst (λ (z : Action). Doable new p z) (same_Some a (Recv of into) (sym nx2 ∙ nx)) d }
+queue_called n l old new p e (queued of into t f nx none) (ready a u k nx2 d) =
+    record {
+      of = of;
+      into = into;
+      active = t;
+      on_queue = e;
+      next_is = nx;
+      came =
+          subst (λ (z : Action). Doable new p z) (same_Some a (Recv of into) (sym nx2 ∙ nx)) d;
+    }
 
-pub seen_some : {R : Type 0} (shown : R → Live) (l : ℕ) (o : Option R) (q : Live) → seen l (option_map shown o) ≡ Some q → (r : R) × (o ≡ Some r) × (listed l (shown r) ≡ q)
+pub seen_some : {R : Type 0} (shown : R → Live) (l : ℕ) (o : Option R) (q : Live) → seen l (option_map shown o) ≡ Some q
+    → (r : R) × (o ≡ Some r) × (listed l (shown r) ≡ q)
 seen_some shown l None q e = absurd (none-some q e)
 seen_some shown l (Some r) q e = (r, refl, same_Some (listed l (shown r)) q e)
 
-module _ {R : Type 0} (shown : R → Live) (g : Setting) (a b : Slots R) (q : Postings) (m n : Instances) (t : Ticket) (x y : R) (to : ℕ) (from : Region) (o : Progress) (list : ℕ)
+module _ {R : Type 0} (shown : R → Live) (g : Setting) (a b : Slots R) (q : Postings) (m n : Instances) (t : Ticket) (x y : R)
+    (to : ℕ) (from : Region) (o : Progress) (list : ℕ)
     (c : IsCore shown g a q m) (h : Advances shown a b n t x y (Send to from) o list) (k : KeepsContributions m n)
-    (mails : mail n ≡ put_key (mail m) (key (shown x)) (put_mail (mail m (key (shown x))) (shown x).member to (shown x).round (Some (read_of (shown x).buf from))))
+    (mails : mail n ≡ put_key (mail m) (key (shown x))
+    (put_mail (mail m (key (shown x))) (shown x).member to (shown x).round (Some (read_of (shown x).buf from))))
     (buf : o.buf ≡ (shown x).buf) where
   abbrev before : Tables
   before = tables shown g a q m
@@ -173,14 +194,16 @@ module _ {R : Type 0} (shown : R → Live) (g : Setting) (a b : Slots R) (q : Po
   actions = acts shown g a b q m n t x y (Send to from) o list c h k
 
   both : (((j : ℕ) → Waking after (key (shown x)) to j → ⊥) → IsSound after × MayFinish g (machine before) (machine after))
-      × ((j : ℕ) (later : ℕ → ℕ) → Waking after (key (shown x)) to j → later j ≡ 2 → Away after j later → IsSound (rehoming after later) × MayFinish g (machine before) (machine (rehoming after later)))
+      × ((j : ℕ) (later : ℕ → ℕ) → Waking after (key (shown x)) to j → later j ≡ 2 → Away after j later
+      → IsSound (rehoming after later) × MayFinish g (machine before) (machine (rehoming after later)))
   both = send_keeps before t.slot (shown x) to from o (home b) c.sound actions buf (mine shown g a b q m n t x y (Send to from) o list c h k messages mails_are)
 
   still_sized : (j : ℕ) (r : Live) → put before.request t.slot (Some (advanced (shown x) o)) j ≡ Some r → r.members ≡ size g r.comm
   still_sized j r e = go (put_cases before.request t.slot (Some (advanced (shown x) o)) j (Some r) e)
     where
       go : ((j ≡ t.slot) × (Some (advanced (shown x) o) ≡ Some r)) ⊎ ((j ≢ t.slot) × (before.request j ≡ Some r)) → r.members ≡ size g r.comm
-      go (inl z) = subst (λ (p : Live). p.members ≡ size g p.comm) (same_Some (advanced (shown x) o) r z.1) (sized shown g a b q m n t x y (Send to from) o list c h k)
+      go (inl z) =
+          subst (λ (p : Live). p.members ≡ size g p.comm) (same_Some (advanced (shown x) o) r z.1) (sized shown g a b q m n t x y (Send to from) o list c h k)
       go (inr z) = c.sound.sound.base.sized j r z.1
 
   -- whom the tables call the arena calls
@@ -219,7 +242,8 @@ module _ {R : Type 0} (shown : R → Live) (g : Setting) (a b : Slots R) (q : Po
     -- as it lay before its message came
     stood : (u.slot ≡ t.slot) ⊎ (u.slot ≡ t.slot → ⊥) → (old : Mail) × Stands (shown r).members old (home b u.slot) (shown r)
     stood (inl e) =
-        let same : y ≡ r = same_Some y r (sym (record_here a b t.slot t.generation (weight_of a t.slot) list (Some y) h.puts) ∙ (ap (record_in b) (sym e) ∙ w.found.here)) in
+        let same : y ≡ r =
+        same_Some y r (sym (record_here a b t.slot t.generation (weight_of a t.slot) list (Some y) h.puts) ∙ (ap (record_in b) (sym e) ∙ w.found.here)) in
         let sits : home b u.slot ≡ list = ap (home b) e ∙ home_here a b t.slot t.generation (weight_of a t.slot) list (Some y) h.puts in
         let members_are : (shown x).members ≡ (shown y).members = ap (λ (z : Live). z.members) (sym h.is) in (
           mail n (key (shown x)),
@@ -228,7 +252,8 @@ module _ {R : Type 0} (shown : R → Live) (g : Setting) (a b : Slots R) (q : Po
               (subst (λ s. Stands s (mail n (key (shown x))) list (shown y)) members_are h.stands)),
         )
     stood (inr e) =
-        let was : record_in a u.slot ≡ Some r = sym (ap (λ (f : ℕ → Option R). f u.slot) h.puts.records ∙ put_other (record_in a) t.slot (Some y) u.slot e) ∙ w.found.here in
+        let was : record_in a u.slot ≡ Some r =
+        sym (ap (λ (f : ℕ → Option R). f u.slot) h.puts.records ∙ put_other (record_in a) t.slot (Some y) u.slot e) ∙ w.found.here in
         let lay : home b u.slot ≡ home a u.slot = home_away a b t.slot t.generation (weight_of a t.slot) list (Some y) h.puts u.slot e in
         let is : before.request u.slot ≡ Some (shown r) = shown_here shown a u.slot r was awake (waits_off (home a u.slot) (sym lay ∙ w.waits)) in
         let fits : (shown r).members ≡ size g (shown r).comm = c.sound.sound.base.sized u.slot (shown r) is in (
@@ -240,7 +265,8 @@ module _ {R : Type 0} (shown : R → Live) (g : Setting) (a b : Slots R) (q : Po
     wakes : Waking after (key (shown x)) to u.slot
     wakes =
         let old = stood (cases_eq u.slot t.slot) in
-        let called : Called (shown r).members (mail n (key (shown r))) (home b u.slot) (shown r) = queue_called (shown r).members (home b u.slot) old.0 (mail n (key (shown r))) (shown r) w.waits old.1 w.ready in
+        let called : Called (shown r).members (mail n (key (shown r))) (home b u.slot) (shown r) =
+        queue_called (shown r).members (home b u.slot) old.0 (mail n (key (shown r))) (shown r) w.waits old.1 w.ready in
         record {
           req = shown r;
           seat = ap (λ (z : Tables). z.seats (key (shown x)) to) (sym is_after) ∙ w.seat;
@@ -252,13 +278,16 @@ module _ {R : Type 0} (shown : R → Live) (g : Setting) (a b : Slots R) (q : Po
     lies_ready : listed 2 (shown r) ≡ shown r
     lies_ready = listed_stands (shown r).members 2 (mail n (key (shown r))) (shown r) w.ready awake
 
-    same_requests : ◌≡◌ {A = ℕ → Option Live} (λ j. seen (home d j) (option_map shown (record_in d j))) (λ j. seen (home b j) (option_map shown (record_in b j)))
+    same_requests : ◌≡◌ {A = ℕ → Option Live} (λ j. seen (home d j) (option_map shown (record_in d j)))
+        (λ j. seen (home b j) (option_map shown (record_in b j)))
     same_requests = shown_same shown g b d u.slot u.generation (weight_of b u.slot) 2 (Some r) w.puts (shown_there ∙ ap Some (sym lies_ready))
 
     is_later : tables shown g d q n ≡ rehoming after (home d)
     is_later = λ z. record {
       setting = g;
-      generation = ((w.puts.generations ∙ put_self (generation_of b) u.slot u.generation w.found.generation_is) ∙ generations shown g a b q m n t x y (Send to from) o list c h k) z;
+      generation =
+          ((w.puts.generations ∙ put_self (generation_of b) u.slot u.generation w.found.generation_is)
+          ∙ generations shown g a b q m n t x y (Send to from) o list c h k) z;
       request = (same_requests ∙ ap (λ (z : Tables). z.request) is_after) z;
       home = home d;
       posts = posts q;
@@ -270,11 +299,13 @@ module _ {R : Type 0} (shown : R → Live) (g : Setting) (a b : Slots R) (q : Po
 
     woken : ActsOnce shown g a d q m n
     woken =
-        let s = both.1 u.slot (home d) wakes (home_here b d u.slot u.generation (weight_of b u.slot) 2 (Some r) w.puts) (home_away b d u.slot u.generation (weight_of b u.slot) 2 (Some r) w.puts) in
+        let s = both.1 u.slot (home d) wakes (home_here b d u.slot u.generation (weight_of b u.slot) 2 (Some r) w.puts)
+        (home_away b d u.slot u.generation (weight_of b u.slot) 2 (Some r) w.puts) in
         let first = h.puts in
         record {
           core = record {
-            set = set_of shown g b d u.slot u.generation (weight_of b u.slot) 2 (Some r) w.puts q q (set_of shown g a b t.slot t.generation (weight_of a t.slot) list (Some y) first q q c.set refl refl) refl refl;
+            set = set_of shown g b d u.slot u.generation (weight_of b u.slot) 2 (Some r) w.puts q q
+                (set_of shown g a b t.slot t.generation (weight_of a t.slot) list (Some y) first q q c.set refl refl) refl refl;
             sound = subst (λ (z : Tables). IsSound z) (sym is_later) s.0;
             sizes = λ l z e. c.sizes l z (ap (λ (f : Key → Option ℕ). f l) (sym k.members) ∙ e);
             weights = weights_of shown g b d u.slot u.generation (weight_of b u.slot) 2 (Some r) w.puts heavy_before heavy_now;
@@ -284,7 +315,9 @@ module _ {R : Type 0} (shown : R → Live) (g : Setting) (a b : Slots R) (q : Po
         }
       where
         heavy_before : weight_of b ≡ (λ j. weight_by (seen (home b j) (option_map shown (record_in b j))))
-        heavy_before = weights_of shown g a b t.slot t.generation (weight_of a t.slot) list (Some y) h.puts c.weights (weighs_on shown g a b q m n t x y (Send to from) o list c h k)
+        heavy_before =
+            weights_of shown g a b t.slot t.generation (weight_of a t.slot) list (Some y) h.puts c.weights
+            (weighs_on shown g a b q m n t x y (Send to from) o list c h k)
 
         heavy_now : weight_of b u.slot ≡ weight_by (seen 2 (option_map shown (Some r)))
         heavy_now = ap (λ (f : ℕ → ℕ). f u.slot) heavy_before ∙ (ap weight_by shown_there ∙ ap weight (sym lies_ready))
@@ -315,8 +348,10 @@ move_core {R} shown g a b q m t x list c h = (core, ap machine is_moved ∙ same
     off l (inr e) z = omega arith
 
     same : IsSound (rehoming v (home b)) × (machine (rehoming v (home b)) ≡ machine v)
-    same = rehome_keeps v t.slot (shown x) (home b) c.sound here (off (home a t.slot) h.from) (subst (λ l. l ≢ 6 + 3 * (shown x).comm) (sym sits) (off list h.onto))
-        (home_away a b t.slot t.generation (weight_of a t.slot) list (Some x) h.puts) (subst (λ l. Stands (size g (shown x).comm) (v.mail (key (shown x))) l (shown x)) (sym sits) (lies h.onto))
+    same = rehome_keeps v t.slot (shown x) (home b) c.sound here (off (home a t.slot) h.from)
+        (subst (λ l. l ≢ 6 + 3 * (shown x).comm) (sym sits) (off list h.onto))
+        (home_away a b t.slot t.generation (weight_of a t.slot) list (Some x) h.puts)
+        (subst (λ l. Stands (size g (shown x).comm) (v.mail (key (shown x))) l (shown x)) (sym sits) (lies h.onto))
 
     lies_as : listed list (shown x) ≡ shown x
     lies_as = listed_active list (shown x) (going_on list (shown x).comm h.onto) h.active

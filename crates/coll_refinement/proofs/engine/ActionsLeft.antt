@@ -53,7 +53,9 @@ module _ {R : Type 0} (shown : R → Live) (g : Setting) (a b : Slots R) (q r : 
 
 -- none without a request, or with one that isn't active
 pub left_idle : (c : ℕ) (x : Live) → x.comm ≡ c → left_by (seen (4 + 3 * c) (Some x)) ≡ 0
-left_idle c x e = ap (λ c. left_by (seen (4 + 3 * c) (Some x))) (sym e) ∙ cond-false (not (4 + 3 * x.comm == 4 + 3 * x.comm)) (remaining (family x.sig x.members x.member) x.round x.index) 0 (listed_idle x.comm)
+left_idle c x e =
+    ap (λ c. left_by (seen (4 + 3 * c) (Some x))) (sym e)
+    ∙ cond-false (not (4 + 3 * x.comm == 4 + 3 * x.comm)) (remaining (family x.sig x.members x.member) x.round x.index) 0 (listed_idle x.comm)
 
 -- an active request has what is left from its point on
 pub left_standing : (n l : ℕ) (mail : Mail) (x : Live) → Stands n mail l x → x.active ≡ true
@@ -66,7 +68,8 @@ left_standing n l mail x stands active =
 some_left : (n : ℕ) (x : Live) (act : Action) → next n x ≡ Some act → (remaining (family x.sig n x.member) x.round x.index == 0) ≡ false
 some_left n x act e =
     let p : Parts = family x.sig n x.member in
-    let low : remaining p x.round x.index ≡ suc (remaining p x.round (suc x.index)) = lowers_remaining p x.round x.index (slice_get_within (actions_of p x.round) x.index act e) in
+    let low : remaining p x.round x.index ≡ suc (remaining p x.round (suc x.index)) =
+    lowers_remaining p x.round x.index (slice_get_within (actions_of p x.round) x.index act e) in
     ne_eqb (remaining p x.round x.index) 0 (λ none. absurd (omega (arith, low, none)))
 
 none_left : (n : ℕ) (x : Live) → x.round ≡ length (family x.sig n x.member).rounds → (remaining (family x.sig n x.member) x.round x.index == 0) ≡ true
@@ -80,8 +83,10 @@ off_done l k c e d = ne_eqb l (6 + 3 * c) (λ f. d (sym e ∙ f))
 pub done_standing : (n l : ℕ) (mail : Mail) (x : Live) → Stands n mail l x → x.active ≡ true
     → (l == 6 + 3 * x.comm) ≡ (remaining (family x.sig n x.member) x.round x.index == 0)
 done_standing n l mail x (ready act t e nx d) active = off_done l 2 x.comm e (λ f. absurd (omega (arith, f))) ∙ sym (some_left n x act nx)
-done_standing n l mail x (running op ty p q into t e nx) active = off_done l 3 x.comm e (λ f. absurd (omega (arith, f))) ∙ sym (some_left n x (Combine op ty p q into) nx)
-done_standing n l mail x (queued of into t e nx none) active = off_done l (5 + 3 * x.comm) x.comm e (λ f. absurd (omega (arith, f))) ∙ sym (some_left n x (Recv of into) nx)
+done_standing n l mail x (running op ty p q into t e nx) active =
+    off_done l 3 x.comm e (λ f. absurd (omega (arith, f))) ∙ sym (some_left n x (Combine op ty p q into) nx)
+done_standing n l mail x (queued of into t e nx none) active =
+    off_done l (5 + 3 * x.comm) x.comm e (λ f. absurd (omega (arith, f))) ∙ sym (some_left n x (Recv of into) nx)
 done_standing n l mail x (done t e h) active = eq-eqb l (6 + 3 * x.comm) e ∙ sym (none_left n x h)
 done_standing n l mail x (idle f e p) active = absurd (false≢true (sym f ∙ active))
 
@@ -108,7 +113,8 @@ done_entered n l mail x stands active over =
 pub left_done : (n l : ℕ) (mail : Mail) (x : Live) → Stands n mail l x → x.active ≡ true → x.members ≡ n → l ≡ 6 + 3 * x.comm → left_by (seen l (Some x)) ≡ 0
 left_done n l mail x stands active size on =
     left_standing n l mail x stands active
-    ∙ (ap (λ s. remaining (family x.sig s x.member) x.round x.index) size ∙ zero_of (remaining (family x.sig n x.member) x.round x.index) (sym (done_standing n l mail x stands active) ∙ eq-eqb l (6 + 3 * x.comm) on))
+    ∙ (ap (λ s. remaining (family x.sig s x.member) x.round x.index) size
+    ∙ zero_of (remaining (family x.sig n x.member) x.round x.index) (sym (done_standing n l mail x stands active) ∙ eq-eqb l (6 + 3 * x.comm) on))
   where
     zero_of : (k : ℕ) → (k == 0) ≡ true → k ≡ 0
     zero_of k e = eqb-true k 0 e

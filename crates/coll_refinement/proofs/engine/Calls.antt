@@ -1,5 +1,6 @@
 -- Initialisations, posts, starts and frees, in the words of the engine's arena, posting lists and instances.
-use Rattle.std.proofs.Common.{◌≡◌, ℕ, suc, ◌+◌, ◌*◌, ◌<◌, ◌≤◌, ◌⊎◌, inl, inr, true, false, cond, List, [], ◌∷◌, ◌++◌, length, slice_get, unwrap_or, Option, Some, None, is_some, refl, sym, ap, subst, ◌∙◌, arith, eq-eqb, ne_eqb, add-one}
+use Rattle.std.proofs.Common.{◌≡◌, ℕ, suc, ◌+◌, ◌*◌, ◌<◌, ◌≤◌, ◌⊎◌, inl, inr, true, false, cond, List, [], ◌∷◌, ◌++◌, length, slice_get, unwrap_or}
+use Rattle.std.proofs.Common.{Option, Some, None, is_some, refl, sym, ap, subst, ◌∙◌, arith, eq-eqb, ne_eqb, add-one}
 use Rattle.std.specs.Prelude.{option_map, nat_lt}
 use Rattle.std.proofs.lemmas.Bool.{cases_eq, false≢true}
 use Rattle.coll_kinds.specs.declared.kind.Mode.TheVariants.{Once, Persistent}
@@ -70,7 +71,8 @@ module _ {R : Type 0} (shown : R → Live) (g : Setting) (a : Slots R) (q : Post
 
   module _ (comm rank : ℕ) (plan : Planned) (is : member_of rank (group g comm) ≡ Some plan.member) where
     pub number_is : number_in q comm rank ≡ plan.member
-    number_is = ap (λ (gs : List (List ℕ)). unwrap_or (member_of rank (unwrap_or (slice_get gs comm) [])) 0) (sym c.set.groups_is) ∙ ap (λ (o : Option ℕ). unwrap_or o 0) is
+    number_is = ap (λ (gs : List (List ℕ)). unwrap_or (member_of rank (unwrap_or (slice_get gs comm) [])) 0) (sym c.set.groups_is)
+        ∙ ap (λ (o : Option ℕ). unwrap_or o 0) is
 
     pub place_is : place_of q comm rank ≡ length (posts q comm plan.member)
     place_is = ap (λ n. length (posts q comm n)) number_is
@@ -95,14 +97,32 @@ init_core {R} shown g a b q r m t rank comm plan y c s h = (core, step)
     p = inited_passed v comm rank plan h.accepted
 
     new : New v t.slot nq rank Persistent plan
-    new = accepted_init v t.slot comm rank plan c.sound (few shown g a q m c comm) (ap (λ (o : Option R). seen (home a t.slot) (option_map shown o)) (free_spare a s t h.free))
-        (subst (λ n. t.slot < n) (sym c.set.slots_is) (free_low a s t h.free)) (subst (λ n. generation_of a t.slot < n) (sym c.set.wear_is) (free_unworn a s t h.free)) h.accepted
+    new = accepted_init v t.slot comm rank plan c.sound (few shown g a q m c comm)
+        (ap (λ (o : Option R). seen (home a t.slot) (option_map shown o)) (free_spare a s t h.free))
+        (subst (λ n. t.slot < n) (sym c.set.slots_is) (free_low a s t h.free))
+        (subst (λ n. generation_of a t.slot < n) (sym c.set.wear_is) (free_unworn a s t h.free)) h.accepted
 
     lies_as : listed (4 + 3 * comm) (shown y) ≡ nq
-    lies_as = ap (listed (4 + 3 * comm)) h.is ∙ (λ z. record { rank = rank; comm = comm; members = plan.n; member = plan.member; place = place_is shown g a q m c comm rank plan p.member_is z; sig = plan.sig; starts = 0; active = listed_idle comm z; round = 0; index = 0; buf = [] })
+    lies_as = ap (listed (4 + 3 * comm)) h.is
+        ∙ (λ z. record {
+          rank = rank;
+          comm = comm;
+          members = plan.n;
+          member = plan.member;
+          place =
+              place_is shown g a q m c comm rank plan p.member_is z;
+          sig = plan.sig;
+          starts = 0;
+          active = listed_idle comm z;
+          round = 0;
+          index = 0;
+          buf = [];
+        })
 
-    both : IsSound (posting v t.slot nq (home b)) × MachineStep g (machine v) (Init rank comm plan) (Ticketed (new_ticket v t.slot)) (machine (posting v t.slot nq (home b)))
-    both = init_keeps v t.slot nq rank plan (home b) c.sound new h.accepted (home_away a b t.slot t.generation 0 (4 + 3 * comm) (Some y) h.puts) (home_here a b t.slot t.generation 0 (4 + 3 * comm) (Some y) h.puts)
+    both : IsSound (posting v t.slot nq (home b))
+        × MachineStep g (machine v) (Init rank comm plan) (Ticketed (new_ticket v t.slot)) (machine (posting v t.slot nq (home b)))
+    both = init_keeps v t.slot nq rank plan (home b) c.sound new h.accepted
+        (home_away a b t.slot t.generation 0 (4 + 3 * comm) (Some y) h.puts) (home_here a b t.slot t.generation 0 (4 + 3 * comm) (Some y) h.puts)
 
     is_after : tables shown g b r m ≡ posting v t.slot nq (home b)
     is_after = λ z. record {
@@ -118,7 +138,8 @@ init_core {R} shown g a b q r m t rank comm plan y c s h = (core, step)
     }
 
     core : IsCore shown g b r m
-    core = core_of shown g a b t.slot t.generation 0 (4 + 3 * comm) (Some y) h.puts q r m m c h.offered.groups h.offered.places c.sizes (sym (ap weight lies_as)) (subst (λ (u : Tables). IsSound u) (sym is_after) both.0)
+    core = core_of shown g a b t.slot t.generation 0 (4 + 3 * comm) (Some y) h.puts q r m m c h.offered.groups h.offered.places
+        c.sizes (sym (ap weight lies_as)) (subst (λ (u : Tables). IsSound u) (sym is_after) both.0)
 
     named_so : new_ticket v t.slot ≡ t
     named_so = λ z. record { slot = t.slot; generation = sym (free_next a s t h.free) z }
@@ -140,8 +161,10 @@ post_core {R} shown g a b q r m n t rank comm plan bytes y o list c s h = (core,
     p = (posted_passed v comm rank plan bytes h.accepted).0
 
     new : New v t.slot nq rank Once plan × (length bytes ≡ given_len plan.sig (size g comm) plan.member)
-    new = accepted_post v t.slot comm rank plan bytes c.sound (few shown g a q m c comm) (ap (λ (o : Option R). seen (home a t.slot) (option_map shown o)) (free_spare a s t h.free))
-        (subst (λ n. t.slot < n) (sym c.set.slots_is) (free_low a s t h.free)) (subst (λ n. generation_of a t.slot < n) (sym c.set.wear_is) (free_unworn a s t h.free)) h.accepted
+    new = accepted_post v t.slot comm rank plan bytes c.sound (few shown g a q m c comm)
+        (ap (λ (o : Option R). seen (home a t.slot) (option_map shown o)) (free_spare a s t h.free))
+        (subst (λ n. t.slot < n) (sym c.set.slots_is) (free_low a s t h.free))
+        (subst (λ n. generation_of a t.slot < n) (sym c.set.wear_is) (free_unworn a s t h.free)) h.accepted
 
     w : ℕ
     w = lent plan.sig plan.n plan.member
@@ -153,10 +176,24 @@ post_core {R} shown g a b q r m n t rank comm plan bytes y o list c s h = (core,
     key_is = λ z. record { comm = comm; place = place z; start = 0 }
 
     begins : shown y ≡ begun nq o
-    begins = h.is ∙ (λ z. record { rank = rank; comm = comm; members = plan.n; member = plan.member; place = place z; sig = plan.sig; starts = 1; active = true; round = o.round; index = o.index; buf = o.buf })
+    begins = h.is ∙ (λ z. record {
+      rank = rank;
+      comm = comm;
+      members = plan.n;
+      member = plan.member;
+      place = place z;
+      sig =
+          plan.sig;
+      starts = 1;
+      active = true;
+      round = o.round;
+      index = o.index;
+      buf = o.buf;
+    })
 
     lies_as : listed list (shown y) ≡ begun nq o
-    lies_as = listed_stands plan.n list (mail m (record { comm = comm; place = place_of q comm rank; start = 0 })) (shown y) h.stands (ap (λ (x : Live). x.active) h.is) ∙ begins
+    lies_as = listed_stands plan.n list (mail m (record { comm = comm; place = place_of q comm rank; start = 0 })) (shown y)
+        h.stands (ap (λ (x : Live). x.active) h.is) ∙ begins
 
     sits : home b t.slot ≡ list
     sits = home_here a b t.slot t.generation w list (Some y) h.puts
@@ -190,18 +227,22 @@ post_core {R} shown g a b q r m n t rank comm plan bytes y o list c s h = (core,
     is_after = λ z. record {
       setting = g;
       generation = (h.puts.generations ∙ ap (λ n. put (generation_of a) t.slot n) (free_next a s t h.free)) z;
-      request = (shown_requests shown g a b t.slot t.generation w list (Some y) h.puts ∙ (ap (λ (x : Live). put v.request t.slot (Some x)) lies_as ∙ sym (put_put v.request t.slot (Some nq) (Some (begun nq o))))) z;
+      request = (shown_requests shown g a b t.slot t.generation w list (Some y) h.puts
+          ∙ (ap (λ (x : Live). put v.request t.slot (Some x)) lies_as ∙ sym (put_put v.request t.slot (Some nq) (Some (begun nq o))))) z;
       home = home b;
       posts = posts_are shown g a q m c comm rank plan p.member_is r h.offered z;
       signed = signed_are shown g a q m c comm rank plan p.member_is r h.offered z;
-      given = λ l. (ap (λ (f : Key → ℕ → Option (List ℕ)). f l) h.joined.given ∙ ap (λ (k : Key). put_key (given m) k (put (given m k) plan.member (Some bytes)) l) key_is) z;
-      seats = λ l. (ap (λ (f : Key → ℕ → Option ℕ). f l) h.joined.seats ∙ ap (λ (k : Key). put_key (seats m) k (put (seats m k) plan.member (Some t.slot)) l) key_is) z;
+      given = λ l. (ap (λ (f : Key → ℕ → Option (List ℕ)). f l) h.joined.given
+          ∙ ap (λ (k : Key). put_key (given m) k (put (given m k) plan.member (Some bytes)) l) key_is) z;
+      seats = λ l. (ap (λ (f : Key → ℕ → Option ℕ). f l) h.joined.seats
+          ∙ ap (λ (k : Key). put_key (seats m) k (put (seats m k) plan.member (Some t.slot)) l) key_is) z;
       mail = λ l. h.joined.mail z l;
     }
 
     core : IsCore shown g b r n
     core = core_of shown g a b t.slot t.generation w list (Some y) h.puts q r m n c h.offered.groups h.offered.places
-        (λ l z e. c.sizes l z (ap (λ (f : Key → Option ℕ). f l) (sym h.joined.members) ∙ e)) (sym (ap weight lies_as)) (subst (λ (u : Tables). IsSound u) (sym is_after) both.0)
+        (λ l z e. c.sizes l z (ap (λ (f : Key → Option ℕ). f l) (sym h.joined.members) ∙ e)) (sym (ap weight lies_as))
+        (subst (λ (u : Tables). IsSound u) (sym is_after) both.0)
 
     named_so : new_ticket v t.slot ≡ t
     named_so = λ z. record { slot = t.slot; generation = sym (free_next a s t h.free) z }
@@ -286,7 +327,8 @@ start_core {R} shown g a b q m n t rank bytes x y o list c h = (core, step)
 
     core : IsCore shown g b q n
     core = core_of shown g a b t.slot t.generation w list (Some y) h.puts q q m n c refl refl
-        (λ l z e. c.sizes l z (ap (λ (f : Key → Option ℕ). f l) (sym h.joined.members) ∙ e)) (sym (ap weight lies_as)) (subst (λ (u : Tables). IsSound u) (sym is_after) both.0)
+        (λ l z e. c.sizes l z (ap (λ (f : Key → Option ℕ). f l) (sym h.joined.members) ∙ e)) (sym (ap weight lies_as))
+        (subst (λ (u : Tables). IsSound u) (sym is_after) both.0)
 
     step : StepsTo g (machine v) (Start rank t bytes) Nothing (machine (tables shown g b q n))
     step = subst (λ (u : Tables). StepsTo g (machine v) (Start rank t bytes) Nothing (machine u)) (sym is_after)
@@ -311,7 +353,8 @@ free_core {R} shown g a b q m t rank x c h = (core, step)
     accepted = ap (λ (u : Ticket). refusal g (state v) (Free rank u)) (ticket_is shown g a q m t x h.found) ∙ h.accepted
 
     lies : Lies g.wear (generation_of a t.slot) (home b t.slot)
-    lies = subst (λ l. Lies g.wear (generation_of a t.slot) l) ((λ z. given_up (c.set.wear_is z) (h.found.generation_is z)) ∙ sym (home_here a b t.slot t.generation 0 l None h.puts))
+    lies = subst (λ l. Lies g.wear (generation_of a t.slot) l)
+        ((λ z. given_up (c.set.wear_is z) (h.found.generation_is z)) ∙ sym (home_here a b t.slot t.generation 0 l None h.puts))
         (lies_given_up g.wear (generation_of a t.slot) (c.sound.sound.numbered t.slot p here).1)
 
     both : IsSound (freeing v t.slot (home b)) × MachineStep g (machine v) (Free rank (ticket v t.slot)) Nothing (machine (freeing v t.slot (home b)))
@@ -335,4 +378,5 @@ free_core {R} shown g a b q m t rank x c h = (core, step)
 
     step : MachineStep g (machine v) (Free rank t) Nothing (machine (tables shown g b q m))
     step = subst (λ (u : Tables). MachineStep g (machine v) (Free rank t) Nothing (machine u)) (sym is_after)
-        (subst (λ (u : Ticket). MachineStep g (machine v) (Free rank u) Nothing (machine (freeing v t.slot (home b)))) (ticket_is shown g a q m t x h.found) both.1)
+        (subst (λ (u : Ticket). MachineStep g (machine v) (Free rank u) Nothing (machine (freeing v t.slot (home b))))
+        (ticket_is shown g a q m t x h.found) both.1)

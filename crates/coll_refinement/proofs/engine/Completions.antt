@@ -1,5 +1,6 @@
 -- Completions, and room that is made, in the words of the engine's arena, posting lists and instances.
-use Rattle.std.proofs.Common.{◌≡◌, ℕ, ◌+◌, ◌*◌, ◌<◌, ◌≢◌, ◌⊎◌, inl, inr, Bool, true, false, cond, List, [], length, slice_get, unwrap_or, Option, Some, None, refl, sym, ap, subst, ◌∙◌}
+use Rattle.std.proofs.Common.{◌≡◌, ℕ, ◌+◌, ◌*◌, ◌<◌, ◌≢◌, ◌⊎◌, inl, inr, Bool, true, false, cond, List, [], length, slice_get, unwrap_or, Option}
+use Rattle.std.proofs.Common.{Some, None, refl, sym, ap, subst, ◌∙◌}
 use Rattle.std.specs.Prelude.{option_map}
 use Rattle.std.proofs.lemmas.Bool.{false≢true}
 use Rattle.std.proofs.lemmas.Option.{none-some, same_Some}
@@ -49,7 +50,8 @@ stands_given (Some x) member h = (length x.shares, refl)
 
 -- ---- a completion
 
-module _ {R : Type 0} (shown : R → Live) (g : Setting) (a b : Slots R) (q : Postings) (m n : Instances) (t : Ticket) (rank : ℕ) (x : R) (bytes : List ℕ) (last : Bool)
+module _ {R : Type 0} (shown : R → Live) (g : Setting) (a b : Slots R) (q : Postings) (m n : Instances) (t : Ticket) (rank : ℕ)
+    (x : R) (bytes : List ℕ) (last : Bool)
     (c : IsCore shown g a q m) (h : Completes shown g (state (tables shown g a q m)) a b m n t rank x bytes last) where
   abbrev v : Tables
   v = tables shown g a q m
@@ -81,14 +83,28 @@ module _ {R : Type 0} (shown : R → Live) (g : Setting) (a b : Slots R) (q : Po
         puts = one;
         is = ap (λ m. rests_by m p) (sym e);
         left = subst (λ m. LeftAt m v t.slot p (given_up a.wear t.generation)) (sym e)
-            (subst (λ l. Lies g.wear (generation_of a t.slot) l) (λ z. given_up (c.set.wear_is z) (h.found.generation_is z)) (lies_given_up g.wear (generation_of a t.slot) (c.sound.sound.numbered t.slot p here).1));
+            (subst (λ l. Lies g.wear (generation_of a t.slot) l) (λ z. given_up (c.set.wear_is z) (h.found.generation_is z))
+            (lies_given_up g.wear (generation_of a t.slot) (c.sound.sound.numbered t.slot p here).1));
       }
       by Persistent e one = record {
         found = Some one.0;
         list = 4 + 3 * p.comm;
         puts = one.1;
         is = ap (λ (z : Live). Some (listed (4 + 3 * p.comm) z)) one.2
-            ∙ ((λ z. Some (record { rank = p.rank; comm = p.comm; members = p.members; member = p.member; place = p.place; sig = p.sig; starts = p.starts; active = listed_idle p.comm z; round = 0; index = 0; buf = [] }))
+            ∙ ((λ z. Some (record {
+              rank = p.rank;
+              comm = p.comm;
+              members = p.members;
+              member = p.member;
+              place = p.place;
+              sig =
+                  p.sig;
+              starts = p.starts;
+              active = listed_idle p.comm z;
+              round = 0;
+              index = 0;
+              buf = [];
+            }))
             ∙ ap (λ m. rests_by m p) (sym e));
         left = subst (λ m. LeftAt m v t.slot p (4 + 3 * p.comm)) (sym e) refl;
       }
@@ -108,7 +124,9 @@ module _ {R : Type 0} (shown : R → Live) (g : Setting) (a b : Slots R) (q : Po
 
   -- the instance stands, with its communicator's members
   stands : (n : ℕ) × (members m (key p) ≡ Some n)
-  stands = stands_given (standing m (key p)) p.member (has_given v c.sound.paths c.sound.sound.base t.slot p here (finished_there (size g p.comm) (home a t.slot) (v.mail (key p)) p h.on_done (c.sound.sound.stands t.slot p here)).0)
+  stands = stands_given (standing m (key p)) p.member
+      (has_given v c.sound.paths c.sound.sound.base t.slot p here
+      (finished_there (size g p.comm) (home a t.slot) (v.mail (key p)) p h.on_done (c.sound.sound.stands t.slot p here)).0)
 
   size_is : unwrap_or (members m (key p)) 0 ≡ size g p.comm
   size_is = ap (λ (o : Option ℕ). unwrap_or o 0) stands.1 ∙ c.sizes (key p) stands.0 stands.1
@@ -135,8 +153,20 @@ module _ {R : Type 0} (shown : R → Live) (g : Setting) (a b : Slots R) (q : Po
   messages : ◌≡◌ {A = Key → Mail} (λ l. mail n l) (put_key v.mail (key p) (cond last (λ _ _ _. None) (v.mail (key p))))
   messages = λ z l. h.left.mail z l
 
-  leaves_with : (given_is : Key → ℕ → Option (List ℕ)) (mail_is : Key → Mail) → ◌≡◌ {A = Key → ℕ → Option (List ℕ)} (λ l. given n l) given_is → ◌≡◌ {A = Key → Mail} (λ l. mail n l) mail_is
-      → tables shown g b q n ≡ record { setting = g; generation = v.generation; request = put v.request t.slot (rests p); home = home b; posts = v.posts; signed = v.signed; given = given_is; seats = put_in v.seats (key p) p.member None; mail = mail_is }
+  leaves_with : (given_is : Key → ℕ → Option (List ℕ)) (mail_is : Key → Mail)
+      → ◌≡◌ {A = Key → ℕ → Option (List ℕ)} (λ l. given n l) given_is → ◌≡◌ {A = Key → Mail} (λ l. mail n l) mail_is
+      → tables shown g b q n ≡ record {
+        setting = g;
+        generation = v.generation;
+        request = put v.request t.slot (rests p);
+        home =
+            home b;
+        posts = v.posts;
+        signed = v.signed;
+        given = given_is;
+        seats = put_in v.seats (key p) p.member None;
+        mail = mail_is;
+      }
   leaves_with given_is mail_is e f = λ z. record {
     setting = g;
     generation = same_generation shown g a q m t x h.found b 0 s.list s.found s.puts z;
@@ -168,15 +198,18 @@ module _ {R : Type 0} (shown : R → Live) (g : Setting) (a b : Slots R) (q : Po
       go : (k ≡ key p) ⊎ (k ≢ key p) → (d : Bool) → put_key (λ (i : Key). members m i) (key p) (cond d None (members m (key p))) k ≡ Some z → z ≡ size g l.comm
       go (inr off) d f = c.sizes l z (sym (off_key (λ (i : Key). members m i) (key p) (cond d None (members m (key p))) k off) ∙ f)
       go (inl on) true f = absurd (none-some z (sym (at_key (λ (i : Key). members m i) (key p) None k on) ∙ f))
-      go (inl on) false f = c.sizes (key p) z (sym (at_key (λ (i : Key). members m i) (key p) (members m (key p)) k on) ∙ f) ∙ ap (λ (i : Key). size g i.comm) (sym on)
+      go (inl on) false f =
+          c.sizes (key p) z (sym (at_key (λ (i : Key). members m i) (key p) (members m (key p)) k on) ∙ f) ∙ ap (λ (i : Key). size g i.comm) (sym on)
 
   abbrev Step : Tables → Type 0
   Step u = MachineStep g (machine v) (Retire rank (ticket v t.slot)) (Outcome rank p.comm p.place (before p.starts) bytes) (machine u)
 
-  finally : IsSound (tables shown g b q n) × Step (tables shown g b q n) → IsCore shown g b q n × MachineStep g (machine v) (Retire rank t) (Outcome rank p.comm p.place (before p.starts) bytes) (machine (tables shown g b q n))
+  finally : IsSound (tables shown g b q n) × Step (tables shown g b q n)
+      → IsCore shown g b q n × MachineStep g (machine v) (Retire rank t) (Outcome rank p.comm p.place (before p.starts) bytes) (machine (tables shown g b q n))
   finally r = (
     core_of shown g a b t.slot t.generation 0 s.list s.found s.puts q q m n c refl refl sizes light r.0,
-    subst (λ (u : Ticket). MachineStep g (machine v) (Retire rank u) (Outcome rank p.comm p.place (before p.starts) bytes) (machine (tables shown g b q n))) (ticket_is shown g a q m t x h.found) r.1,
+    subst (λ (u : Ticket). MachineStep g (machine v) (Retire rank u) (Outcome rank p.comm p.place (before p.starts) bytes) (machine (tables shown g b q n)))
+        (ticket_is shown g a q m t x h.found) r.1,
   )
 
   retired : IsSound (tables shown g b q n) × Step (tables shown g b q n)
@@ -190,14 +223,16 @@ module _ {R : Type 0} (shown : R → Live) (g : Setting) (a b : Slots R) (q : Po
           let both = retire_keeps v t.slot p rank bytes (home b) c.sound retiring (λ l. false≢true (sym e ∙ h.left.last_is.1 (there_last l))) in
           subst (λ (u : Tables). IsSound u × Step u) (sym is) both
       by true e =
-          let is : tables shown g b q n ≡ dissolving (leaving v t.slot p (home b)) (key p) = leaves_with (put_key v.given (key p) (λ _. None)) (put_key v.mail (key p) (λ _ _ _. None))
+          let is : tables shown g b q n ≡ dissolving (leaving v t.slot p (home b)) (key p) =
+          leaves_with (put_key v.given (key p) (λ _. None)) (put_key v.mail (key p) (λ _ _ _. None))
           (contributions ∙ ap (λ d. put_key v.given (key p) (cond d (λ _. None) (v.given (key p)))) e)
           (messages ∙ ap (λ d. put_key v.mail (key p) (cond d (λ _ _ _. None) (v.mail (key p)))) e) in
           let both = last_retire_keeps v t.slot p rank bytes (home b) c.sound retiring (last_there (h.left.last_is.0 e)) in
           subst (λ (u : Tables). IsSound u × Step u) (sym is) both
 
 pub retire_core : {R : Type 0} → RetireCore R
-retire_core {R} shown g a b q m n t rank x bytes last c h = finally shown g a b q m n t rank x bytes last c h (retired shown g a b q m n t rank x bytes last c h)
+retire_core {R} shown g a b q m n t rank x bytes last c h =
+    finally shown g a b q m n t rank x bytes last c h (retired shown g a b q m n t rank x bytes last c h)
 
 -- ---- room
 
@@ -232,7 +267,8 @@ room_core {R} shown g a q r m n k c h = (
       mail = λ l. h.mail z l;
     }
 
-    sizes : (l : Key) (z : ℕ) → members n l ≡ Some z → (members n ≡ members m) ⊎ (members n ≡ put_key (members m) k (Some (unwrap_or (members m k) (size g k.comm)))) → z ≡ size g l.comm
+    sizes : (l : Key) (z : ℕ) → members n l ≡ Some z
+        → (members n ≡ members m) ⊎ (members n ≡ put_key (members m) k (Some (unwrap_or (members m k) (size g k.comm)))) → z ≡ size g l.comm
     sizes l z e (inl f) = c.sizes l z (ap (λ (o : Key → Option ℕ). o l) (sym f) ∙ e)
     sizes l z e (inr f) = go (split_key i j) (sym (ap (λ (o : Key → Option ℕ). o l) f) ∙ e)
       where
@@ -248,6 +284,8 @@ room_core {R} shown g a q r m n k c h = (
 
         go : (i ≡ j) ⊎ (i ≢ j) → put_key (λ (u : Key). members m u) j (Some (unwrap_or (members m k) (size g k.comm))) i ≡ Some z → z ≡ size g l.comm
         go (inl on) e =
-            let is : unwrap_or (members m k) (size g k.comm) ≡ z = same_Some (unwrap_or (members m k) (size g k.comm)) z (sym (at_key (λ (u : Key). members m u) j (Some (unwrap_or (members m k) (size g k.comm))) i on) ∙ e) in
+            let is : unwrap_or (members m k) (size g k.comm) ≡ z =
+            same_Some (unwrap_or (members m k) (size g k.comm)) z
+            (sym (at_key (λ (u : Key). members m u) j (Some (unwrap_or (members m k) (size g k.comm))) i on) ∙ e) in
             sym is ∙ (known (members m k) refl ∙ ap (λ (u : Key). size g u.comm) (sym on))
         go (inr off) e = c.sizes l z (sym (off_key (λ (u : Key). members m u) j (Some (unwrap_or (members m k) (size g k.comm))) i off) ∙ e)

@@ -32,7 +32,8 @@ pub open_core : {R : Type 0} → OpenCore R
 open_core {R} shown g q m wear groups groups_is places_is posts_are members_are given_are seats_are mail_are = (
   record {
     set = record { slots_is = sym counted; wear_is = refl; comms_is = refl; groups_is = groups_is; places_is = places_is; groups = groups };
-    sound = subst (λ (v : Tables). IsSound v) (sym is_opened) (open_keeps g (home a) wear (λ i low. list_of-opening g.slots (list_count (length g.groups)) i low));
+    sound = subst (λ (v : Tables). IsSound v) (sym is_opened)
+        (open_keeps g (home a) wear (λ i low. list_of-opening g.slots (list_count (length g.groups)) i low));
     sizes = λ k n e. absurd (none-some n (ap (λ (f : Key → Option ℕ). f k) (sym members_are) ∙ e));
     weights = λ z i. (replicate_default g.slots i 0 ∙ ap (λ (o : Option Live). weight_by o) (sym (empty i))) z;
   },

@@ -1,5 +1,6 @@
 -- What the engine's calls may rely on, and what it shows between them.
-use Rattle.std.proofs.Common.{◌≡◌, ℕ, zero, suc, ◌+◌, ◌*◌, ◌<◌, ◌≤◌, ◌≢◌, true, not, cond, List, [], ◌∷◌, length, map, unwrap_or, sum, Option, Some, None, refl, sym, ap, subst, ◌∙◌, arith, ne_eqb, add-one}
+use Rattle.std.proofs.Common.{◌≡◌, ℕ, zero, suc, ◌+◌, ◌*◌, ◌<◌, ◌≤◌, ◌≢◌, true, not, cond, List, [], ◌∷◌, length, map, unwrap_or, sum, Option, Some}
+use Rattle.std.proofs.Common.{None, refl, sym, ap, subst, ◌∙◌, arith, ne_eqb, add-one}
 use Rattle.std.specs.Prelude.{option_map}
 use Rattle.std.specs.List.{range_with_len}
 use Rattle.std.proofs.lemmas.Option.{none-some}
@@ -33,7 +34,8 @@ use Rattle.coll_refinement.proofs.tables.LiveRequests.{has_given}
 use Rattle.coll_refinement.proofs.engine.Calls.{place_is}
 
 -- a live request as the tables show it
-in_slot : {R : Type 0} (shown : R → Live) (a : Slots R) (i : ℕ) (x : R) → record_in a i ≡ Some x → seen (home a i) (option_map shown (record_in a i)) ≡ Some (listed (home a i) (shown x))
+in_slot : {R : Type 0} (shown : R → Live) (a : Slots R) (i : ℕ) (x : R) → record_in a i ≡ Some x
+    → seen (home a i) (option_map shown (record_in a i)) ≡ Some (listed (home a i) (shown x))
 in_slot shown a i x e = ap (λ (o : Option _). seen (home a i) (option_map shown o)) e
 
 pub new_core : {R : Type 0} → NewCore R
@@ -45,13 +47,15 @@ new_core {R} shown g a q m c = (of_post, of_start)
     of_start : (i : ℕ) (x : R) → record_in a i ≡ Some x → given m (at (shown x) (shown x).starts) (shown x).member ≡ None
     of_start i x e = not_given v c.sound.paths c.sound.sound.base i (listed (home a i) (shown x)) (in_slot shown a i x e)
 
-    of_post : (rank comm : ℕ) (plan : Planned) (bytes : List ℕ) → refusal g (state v) (Post rank comm plan bytes) ≡ None → given m (record { comm = comm; place = place_of q comm rank; start = 0 }) plan.member ≡ None
+    of_post : (rank comm : ℕ) (plan : Planned) (bytes : List ℕ) → refusal g (state v) (Post rank comm plan bytes) ≡ None
+        → given m (record { comm = comm; place = place_of q comm rank; start = 0 }) plan.member ≡ None
     of_post rank comm plan bytes e = go (given m (record { comm = comm; place = place_of q comm rank; start = 0 }) plan.member) refl
       where
         place : place_of q comm rank ≡ length (posts q comm plan.member)
         place = place_is shown g a q m c comm rank plan (posted_passed v comm rank plan bytes e).0.member_is
 
-        go : (o : Option (List ℕ)) → given m (record { comm = comm; place = place_of q comm rank; start = 0 }) plan.member ≡ o → given m (record { comm = comm; place = place_of q comm rank; start = 0 }) plan.member ≡ None
+        go : (o : Option (List ℕ)) → given m (record { comm = comm; place = place_of q comm rank; start = 0 }) plan.member ≡ o
+            → given m (record { comm = comm; place = place_of q comm rank; start = 0 }) plan.member ≡ None
         go None f = f
         go (Some bs) f =
             let k : Key = record { comm = comm; place = place_of q comm rank; start = 0 } in
@@ -119,7 +123,8 @@ ready_core {R} shown g a q m i x c e two = go (c.sound.sound.stands i p (in_slot
     sized : p.members ≡ size g p.comm
     sized = c.sound.sound.base.sized i p (in_slot shown a i x e)
 
-    go : Stands (size g p.comm) (mail m (key p)) (home a i) p → (act : Action) × (next (shown x).members (shown x) ≡ Some act) × Doable (mail m (key (shown x))) (shown x) act
+    go : Stands (size g p.comm) (mail m (key p)) (home a i) p
+        → (act : Action) × (next (shown x).members (shown x) ≡ Some act) × Doable (mail m (key (shown x))) (shown x) act
     go (ready act t f nx d) = (act, subst (λ s. next s p ≡ Some act) (sym sized) nx, doable_listed (mail m (key p)) (home a i) (shown x) act d)
     go (running op ty y z into t f nx) = absurd (omega arith)
     go (queued of into t f nx none) = absurd (omega arith)
@@ -129,7 +134,8 @@ ready_core {R} shown g a q m i x c e two = go (c.sound.sound.stands i p (in_slot
 -- ---- between the calls
 
 pub quiet_core : {R : Type 0} → QuietCore R
-quiet_core {R} shown g a q m c s ready_empty running_empty i p e = (off 2 ready_empty (omega (arith, s.lists_is)), off 3 running_empty (omega (arith, s.lists_is)))
+quiet_core {R} shown g a q m c s ready_empty running_empty i p e =
+    (off 2 ready_empty (omega (arith, s.lists_is)), off 3 running_empty (omega (arith, s.lists_is)))
   where
     low : i < count a
     low = subst (λ n. i < n) c.set.slots_is (c.sound.sound.numbered i p e).0
@@ -144,7 +150,8 @@ quiet_core {R} shown g a q m c s ready_empty running_empty i p e = (off 2 ready_
         let none : times i (sequence a.lists l) ≡ 0 = none_in (sequence a.lists l) empty in
         omega arith
 
-sum_slots : (f : ℕ → ℕ) (h : Option Request → ℕ) (request : ℕ → Option Request) (n : ℕ) → ((i : ℕ) → i < n → f i ≡ h (request i)) → sum (map f (range_with_len 0 n)) ≡ over_slots h request n
+sum_slots : (f : ℕ → ℕ) (h : Option Request → ℕ) (request : ℕ → Option Request) (n : ℕ) → ((i : ℕ) → i < n → f i ≡ h (request i))
+    → sum (map f (range_with_len 0 n)) ≡ over_slots h request n
 sum_slots f h request zero e = refl
 sum_slots f h request (suc n) e =
     let below : sum (map f (range_with_len 0 n)) ≡ over_slots h request n = sum_slots f h request n (λ i l. e i (omega (arith, l))) in
@@ -153,20 +160,28 @@ sum_slots f h request (suc n) e =
     ∙ (λ z. below z + e n (omega arith) z))
 
 pub lent_core : {R : Type 0} → LentCore R
-lent_core {R} shown g a q m c s = ap (λ n. sum (map (slot_lends a) (range_with_len 0 n))) (sym c.set.slots_is) ∙ sum_slots (slot_lends a) (lent_by g (state v)) (state v).request g.slots (λ i low. each i (subst (λ n. i < n) c.set.slots_is low))
+lent_core {R} shown g a q m c s =
+    ap (λ n. sum (map (slot_lends a) (range_with_len 0 n))) (sym c.set.slots_is)
+    ∙ sum_slots (slot_lends a) (lent_by g (state v)) (state v).request g.slots (λ i low. each i (subst (λ n. i < n) c.set.slots_is low))
   where
     v : Tables
     v = tables shown g a q m
 
     -- what a live request weighs is what the machine says that it lends
     weighs : (p : Live) → (i : ℕ) → v.request i ≡ Some p → weight p ≡ lent_by g (state v) (Some (as_request p))
-    weighs p i e = ap (λ n. cond p.active n 0) (ap (λ n. lends p.sig n p.member) (c.sound.sound.base.sized i p e) ∙ ap (λ (o : Option Signature). unwrap_or (option_map (λ sig. lends sig (size g p.comm) p.member) o) 0) (sym (c.sound.sound.base.own i p e)))
+    weighs p i e =
+        ap (λ n. cond p.active n 0)
+        (ap (λ n. lends p.sig n p.member) (c.sound.sound.base.sized i p e)
+        ∙ ap (λ (o : Option Signature). unwrap_or (option_map (λ sig. lends sig (size g p.comm) p.member) o) 0) (sym (c.sound.sound.base.own i p e)))
 
     by : (i : ℕ) → (o : Option R) → record_in a i ≡ o → weight_of a i ≡ lent_by g (state v) ((state v).request i)
-    by i None e = ap (λ (f : ℕ → ℕ). f i) c.weights ∙ ((λ z. weight_by (seen (home a i) (option_map shown (e z)))) ∙ (λ z. lent_by g (state v) (asked (seen (home a i) (option_map shown (sym e z))))))
+    by i None e =
+        ap (λ (f : ℕ → ℕ). f i) c.weights
+        ∙ ((λ z. weight_by (seen (home a i) (option_map shown (e z)))) ∙ (λ z. lent_by g (state v) (asked (seen (home a i) (option_map shown (sym e z))))))
     by i (Some x) e =
         let here = in_slot shown a i x e in
-        ap (λ (f : ℕ → ℕ). f i) c.weights ∙ (ap weight_by here ∙ (weighs (listed (home a i) (shown x)) i here ∙ ap (λ (o : Option Live). lent_by g (state v) (asked o)) (sym here)))
+        ap (λ (f : ℕ → ℕ). f i) c.weights
+        ∙ (ap weight_by here ∙ (weighs (listed (home a i) (shown x)) i here ∙ ap (λ (o : Option Live). lent_by g (state v) (asked o)) (sym here)))
 
     each : (i : ℕ) → i < count a → slot_lends a i ≡ lent_by g (state v) ((state v).request i)
     each i low = lent_by-weight a s i low ∙ by i (record_in a i) refl

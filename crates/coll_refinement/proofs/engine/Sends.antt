@@ -34,7 +34,8 @@ use Rattle.coll_refinement.proofs.engine.Actions.{going_on, queue_called, shown_
 
 -- ---- nobody is called
 
-module _ {R : Type 0} (shown : R → Live) (g : Setting) (a c : Slots R) (q : Postings) (m n : Instances) (t : Ticket) (x y : R) (to : ℕ) (from : Region) (o : Progress) (list : ℕ) (k : Key)
+module _ {R : Type 0} (shown : R → Live) (g : Setting) (a c : Slots R) (q : Postings) (m n : Instances) (t : Ticket) (x y : R)
+    (to : ℕ) (from : Region) (o : Progress) (list : ℕ) (k : Key)
     (h : Advances shown a c n t x y (Send to from) o list) (none : (j : ℕ) (r : R) → IsCalled shown a n k to j r → ⊥) where
   -- nor is anybody when the sender has gone on
   still_none : (j : ℕ) (r : R) → IsCalled shown c n k to j r → ⊥
@@ -51,11 +52,14 @@ module _ {R : Type 0} (shown : R → Live) (g : Setting) (a c : Slots R) (q : Po
 
       go : (j ≡ t.slot) ⊎ (j ≡ t.slot → ⊥) → ⊥
       go (inl e) =
-          let same : r ≡ y = same_Some r y (sym w.here ∙ (ap (record_in c) e ∙ record_here a c t.slot t.generation (weight_of a t.slot) list (Some y) h.puts)) in
+          let same : r ≡ y =
+          same_Some r y (sym w.here ∙ (ap (record_in c) e ∙ record_here a c t.slot t.generation (weight_of a t.slot) list (Some y) h.puts)) in
           let lay : home c j ≡ list = ap (home c) e ∙ sits in
-          let called : Called (shown y).members (mail n (key (shown y))) list (listed list (shown y)) = subst (λ (z : R). Called (shown z).members (mail n (key (shown z))) list (listed list (shown z))) same
+          let called : Called (shown y).members (mail n (key (shown y))) list (listed list (shown y)) =
+          subst (λ (z : R). Called (shown z).members (mail n (key (shown z))) list (listed list (shown z))) same
           (subst (λ l. Called (shown r).members (mail n (key (shown r))) l (listed l (shown r))) lay w.called) in
-          let there : Called (shown x).members (mail n (key (shown x))) list (shown y) = subst (λ (z : Live). Called z.members (mail n (key z)) list (shown y)) h.is
+          let there : Called (shown x).members (mail n (key (shown x))) list (shown y) =
+          subst (λ (z : Live). Called z.members (mail n (key z)) list (shown y)) h.is
           (subst (λ (z : Live). Called (shown y).members (mail n (key (shown y))) list z) lies_as called) in
           not_both (shown x).members list (mail n (key (shown x))) (shown y) h.stands there
       go (inr d) =
@@ -68,9 +72,12 @@ module _ {R : Type 0} (shown : R → Live) (g : Setting) (a c : Slots R) (q : Po
 
 -- ---- one request is woken
 
-module _ {R : Type 0} (shown : R → Live) (g : Setting) (a b c : Slots R) (q : Postings) (m n : Instances) (t u : Ticket) (x y r : R) (to : ℕ) (from : Region) (o : Progress) (list : ℕ)
-    (s : IsCore shown g a q m) (w : Wakes shown a b n (key (shown x)) to u r) (h : Advances shown b c n t x y (Send to from) o list) (k : KeepsContributions m n)
-    (mails : mail n ≡ put_key (mail m) (key (shown x)) (put_mail (mail m (key (shown x))) (shown x).member to (shown x).round (Some (read_of (shown x).buf from))))
+module _ {R : Type 0} (shown : R → Live) (g : Setting) (a b c : Slots R) (q : Postings) (m n : Instances) (t u : Ticket)
+    (x y r : R) (to : ℕ) (from : Region) (o : Progress) (list : ℕ)
+    (s : IsCore shown g a q m) (w : Wakes shown a b n (key (shown x)) to u r)
+    (h : Advances shown b c n t x y (Send to from) o list) (k : KeepsContributions m n)
+    (mails : mail n ≡ put_key (mail m) (key (shown x))
+    (put_mail (mail m (key (shown x))) (shown x).member to (shown x).round (Some (read_of (shown x).buf from))))
     (buf : o.buf ≡ (shown x).buf) where
   abbrev v : Tables
   v = tables shown g a q m
@@ -103,8 +110,10 @@ module _ {R : Type 0} (shown : R → Live) (g : Setting) (a b c : Slots R) (q : 
   -- it isn't the sender
   apart : t.slot ≢ u.slot
   apart e =
-      let same : r ≡ x = same_Some r x (sym (record_here a b u.slot u.generation (weight_of a u.slot) 2 (Some r) w.puts) ∙ (ap (record_in b) (sym e) ∙ h.found.here)) in
-      let recv : next (shown x).members (shown x) ≡ Some (Recv called.of called.into) = subst (λ (z : R). next (shown z).members (shown z) ≡ Some (Recv called.of called.into)) same called.next_is in
+      let same : r ≡ x =
+      same_Some r x (sym (record_here a b u.slot u.generation (weight_of a u.slot) 2 (Some r) w.puts) ∙ (ap (record_in b) (sym e) ∙ h.found.here)) in
+      let recv : next (shown x).members (shown x) ≡ Some (Recv called.of called.into) =
+      subst (λ (z : R). next (shown z).members (shown z) ≡ Some (Recv called.of called.into)) same called.next_is in
       false≢true (ap is_recv (same_Some (Send to from) (Recv called.of called.into) (sym h.next_is ∙ recv)))
 
   -- the sender as it lay
@@ -170,8 +179,11 @@ module _ {R : Type 0} (shown : R → Live) (g : Setting) (a b c : Slots R) (q : 
   is_later : tables shown g c q n ≡ rehoming after (home c)
   is_later = λ z. record {
     setting = g;
-    generation = ((h.puts.generations ∙ put_self (generation_of b) t.slot t.generation h.found.generation_is) ∙ (w.puts.generations ∙ put_self (generation_of a) u.slot u.generation w.found.generation_is)) z;
-    request = (shown_requests shown g b c t.slot t.generation (weight_of b t.slot) list (Some y) h.puts ∙ (λ z. put (same_requests z) t.slot (Some (lies_on z)))) z;
+    generation =
+        ((h.puts.generations ∙ put_self (generation_of b) t.slot t.generation h.found.generation_is)
+        ∙ (w.puts.generations ∙ put_self (generation_of a) u.slot u.generation w.found.generation_is)) z;
+    request = (shown_requests shown g b c t.slot t.generation (weight_of b t.slot) list (Some y) h.puts
+        ∙ (λ z. put (same_requests z) t.slot (Some (lies_on z)))) z;
     home = home c;
     posts = posts q;
     signed = signed q;
@@ -181,14 +193,20 @@ module _ {R : Type 0} (shown : R → Live) (g : Setting) (a b c : Slots R) (q : 
   }
 
   later_ready : home c u.slot ≡ 2
-  later_ready = home_away b c t.slot t.generation (weight_of b t.slot) list (Some y) h.puts u.slot other ∙ home_here a b u.slot u.generation (weight_of a u.slot) 2 (Some r) w.puts
+  later_ready =
+      home_away b c t.slot t.generation (weight_of b t.slot) list (Some y) h.puts u.slot other
+      ∙ home_here a b u.slot u.generation (weight_of a u.slot) 2 (Some r) w.puts
 
   later_away : (j : ℕ) → j ≢ u.slot → home c j ≡ homes j
   later_away j d = go (cases_eq j t.slot)
     where
       go : (j ≡ t.slot) ⊎ (j ≡ t.slot → ⊥) → home c j ≡ homes j
-      go (inl e) = ap (home c) e ∙ (home_here b c t.slot t.generation (weight_of b t.slot) list (Some y) h.puts ∙ (sym (put_same (home a) t.slot list) ∙ ap homes (sym e)))
-      go (inr f) = home_away b c t.slot t.generation (weight_of b t.slot) list (Some y) h.puts j f ∙ (home_away a b u.slot u.generation (weight_of a u.slot) 2 (Some r) w.puts j d ∙ sym (put_other (home a) t.slot list j f))
+      go (inl e) =
+          ap (home c) e ∙ (home_here b c t.slot t.generation (weight_of b t.slot) list (Some y) h.puts
+          ∙ (sym (put_same (home a) t.slot list) ∙ ap homes (sym e)))
+      go (inr f) =
+          home_away b c t.slot t.generation (weight_of b t.slot) list (Some y) h.puts j f
+          ∙ (home_away a b u.slot u.generation (weight_of a u.slot) 2 (Some r) w.puts j d ∙ sym (put_other (home a) t.slot list j f))
 
   heavy_woken : weight_of a u.slot ≡ weight_by (seen 2 (option_map shown (Some r)))
   heavy_woken = weighs shown g a q m s u.slot (shown r) waited ∙ ap weight (sym lies_ready)
@@ -197,14 +215,16 @@ module _ {R : Type 0} (shown : R → Live) (g : Setting) (a b c : Slots R) (q : 
   heavy_between = weights_of shown g a b u.slot u.generation (weight_of a u.slot) 2 (Some r) w.puts s.weights heavy_woken
 
   heavy_on : weight_of b t.slot ≡ weight_by (seen list (option_map shown (Some y)))
-  heavy_on = ap (λ (f : ℕ → ℕ). f t.slot) heavy_between ∙ (ap (λ (f : ℕ → Option Live). weight_by (f t.slot)) same_requests ∙ (ap weight_by here ∙ ap weight (sym lies_on)))
+  heavy_on = ap (λ (f : ℕ → ℕ). f t.slot) heavy_between
+      ∙ (ap (λ (f : ℕ → Option Live). weight_by (f t.slot)) same_requests ∙ (ap weight_by here ∙ ap weight (sym lies_on)))
 
   woken_first : ActsOnce shown g a c q m n
   woken_first =
       let both = (send_keeps v t.slot p to from o homes s.sound acts buf mine).1 u.slot (home c) wakes later_ready later_away in
       record {
         core = record {
-          set = set_of shown g b c t.slot t.generation (weight_of b t.slot) list (Some y) h.puts q q (set_of shown g a b u.slot u.generation (weight_of a u.slot) 2 (Some r) w.puts q q s.set refl refl) refl refl;
+          set = set_of shown g b c t.slot t.generation (weight_of b t.slot) list (Some y) h.puts q q
+              (set_of shown g a b u.slot u.generation (weight_of a u.slot) 2 (Some r) w.puts q q s.set refl refl) refl refl;
           sound = subst (λ (z : Tables). IsSound z) (sym is_later) both.0;
           sizes = λ l z e. s.sizes l z (ap (λ (f : Key → Option ℕ). f l) (sym k.members) ∙ e);
           weights = weights_of shown g b c t.slot t.generation (weight_of b t.slot) list (Some y) h.puts heavy_between heavy_on;
@@ -217,4 +237,5 @@ pub send_core : {R : Type 0} → SendCore R
 send_core {R} shown g a b c q m n t x y to from o list s (inl none) h k mails buf =
     let goes : Advances shown a c n t x y (Send to from) o list = subst (λ (z : Slots R). Advances shown z c n t x y (Send to from) o list) none.1 h in
     unwoken shown g a c q m n t x y to from o list s goes k mails buf (still_none shown g a c q m n t x y to from o list (key (shown x)) goes none.0)
-send_core {R} shown g a b c q m n t x y to from o list s (inr w) h k mails buf = woken_first shown g a b c q m n t w.0 x y w.1 to from o list s w.2 h k mails buf
+send_core {R} shown g a b c q m n t x y to from o list s (inr w) h k mails buf =
+    woken_first shown g a b c q m n t w.0 x y w.1 to from o list s w.2 h k mails buf

@@ -1,5 +1,6 @@
 -- Changes of one slot of an arena: how they compose, and what the tables show of them.
-use Rattle.std.proofs.Common.{◌≡◌, ℕ, ◌+◌, ◌*◌, ◌==◌, ◌<◌, ◌≢◌, eqb, cond, Bool, true, false, not, Option, Some, refl, sym, ap, subst, ◌∙◌, eq-eqb, ne_eqb, arith}
+use Rattle.std.proofs.Common.{◌≡◌, ℕ, ◌+◌, ◌*◌, ◌==◌, ◌<◌, ◌≢◌, eqb, cond, Bool, true, false, not, Option, Some, refl, sym, ap, subst, ◌∙◌, eq-eqb}
+use Rattle.std.proofs.Common.{ne_eqb, arith}
 use Rattle.std.proofs.lemmas.Bool.{false≢true}
 use Rattle.std.specs.Prelude.{option_map}
 use Rattle.coll_kinds.specs.Puts.{put}
@@ -36,7 +37,8 @@ module _ {R : Type 0} where
   }
 
   -- another record, written through a borrow
-  pub one_written : (a : Slots R) → arena.IsSound a → (i : ℕ) → i < count a → (x : R) → OneSlot a (rewritten a i x) i (generation_of a i) (weight_of a i) (Some x) (home a i)
+  pub one_written : (a : Slots R) → arena.IsSound a → (i : ℕ) → i < count a → (x : R)
+      → OneSlot a (rewritten a i x) i (generation_of a i) (weight_of a i) (Some x) (home a i)
   one_written a s i low x = one_slot a (rewritten a i x) i (generation_of a i) (weight_of a i) (home a i) (Some x) (PutsSlot-rewritten a s i low x)
 
   module _ (a b : Slots R) (i gen w l : ℕ) (o : Option R) (h : OneSlot a b i gen w o l) where
@@ -68,19 +70,40 @@ module _ {R : Type 0} where
     }
 
     pub then_reweighed : (c : Slots R) (gen2 w2 : ℕ) → PutsSlot b c i gen2 w2 (record_in b i) (home b i) → OneSlot a c i gen2 w2 o l
-    then_reweighed c gen2 w2 p = subst (λ l. OneSlot a c i gen2 w2 o l) home_here (subst (λ (o : Option R). OneSlot a c i gen2 w2 o (home b i)) record_here (one_then c gen2 w2 (home b i) (record_in b i) (one_slot b c i gen2 w2 (home b i) (record_in b i) p)))
+    then_reweighed c gen2 w2 p =
+        subst (λ l. OneSlot a c i gen2 w2 o l) home_here
+        (subst (λ (o : Option R). OneSlot a c i gen2 w2 o (home b i)) record_here
+        (one_then c gen2 w2 (home b i) (record_in b i) (one_slot b c i gen2 w2 (home b i) (record_in b i) p)))
 
     pub then_shifted : (c : Slots R) (gen2 l2 : ℕ) → PutsSlot b c i gen2 (weight_of b i) (record_in b i) l2 → OneSlot a c i gen2 w o l2
-    then_shifted c gen2 l2 p = subst (λ w. OneSlot a c i gen2 w o l2) weight_here (subst (λ (o : Option R). OneSlot a c i gen2 (weight_of b i) o l2) record_here (one_then c gen2 (weight_of b i) l2 (record_in b i) (one_slot b c i gen2 (weight_of b i) l2 (record_in b i) p)))
+    then_shifted c gen2 l2 p =
+        subst (λ w. OneSlot a c i gen2 w o l2) weight_here
+        (subst (λ (o : Option R). OneSlot a c i gen2 (weight_of b i) o l2) record_here
+        (one_then c gen2 (weight_of b i) l2 (record_in b i) (one_slot b c i gen2 (weight_of b i) l2 (record_in b i) p)))
 
   -- a move alone
-  pub one_shifted : (a b : Slots R) (i gen l : ℕ) (x : R) → record_in a i ≡ Some x → PutsSlot a b i gen (weight_of a i) (record_in a i) l → OneSlot a b i gen (weight_of a i) (Some x) l
+  pub one_shifted : (a b : Slots R) (i gen l : ℕ) (x : R) → record_in a i ≡ Some x
+      → PutsSlot a b i gen (weight_of a i) (record_in a i) l → OneSlot a b i gen (weight_of a i) (Some x) l
   one_shifted a b i gen l x e p = subst (λ (o : Option R). OneSlot a b i gen (weight_of a i) o l) e (one_slot a b i gen (weight_of a i) l (record_in a i) p)
 
 -- ---- what a list tells of a request
 
 pub listed_active : (l : ℕ) (q : Live) → l ≢ 4 + 3 * q.comm → q.active ≡ true → listed l q ≡ q
-listed_active l q d t = λ z. record { rank = q.rank; comm = q.comm; members = q.members; member = q.member; place = q.place; sig = q.sig; starts = q.starts; active = e z; round = q.round; index = q.index; buf = q.buf }
+listed_active l q d t =
+    λ z. record {
+      rank = q.rank;
+      comm = q.comm;
+      members = q.members;
+      member = q.member;
+      place = q.place;
+      sig = q.sig;
+      starts =
+          q.starts;
+      active = e z;
+      round = q.round;
+      index = q.index;
+      buf = q.buf;
+    }
   where
     e : not (l == 4 + 3 * q.comm) ≡ q.active
     e = ap not (ne_eqb l (4 + 3 * q.comm) d) ∙ sym t
@@ -102,10 +125,13 @@ listed_stands n l mail q st t = listed_active l q (not_idle n l mail q st t) t
 -- ---- the tables
 
 module _ {R : Type 0} (shown : R → Live) (g : Setting) (a b : Slots R) (i gen w l : ℕ) (o : Option R) (h : OneSlot a b i gen w o l) where
-  pub shown_requests : (λ j. seen (home b j) (option_map shown (record_in b j))) ≡ put (λ j. seen (home a j) (option_map shown (record_in a j))) i (seen l (option_map shown o))
+  pub shown_requests : (λ j. seen (home b j) (option_map shown (record_in b j)))
+      ≡ put (λ j. seen (home a j) (option_map shown (record_in a j))) i (seen l (option_map shown o))
   shown_requests = (λ z j. seen (h.homes z j) (option_map shown (h.records z j))) ∙ (λ z j. here j (eqb j i) z)
     where
-      here : (j : ℕ) (t : Bool) → seen (cond t l (home a j)) (option_map shown (cond t o (record_in a j))) ≡ cond t (seen l (option_map shown o)) (seen (home a j) (option_map shown (record_in a j)))
+      here : (j : ℕ) (t : Bool)
+          → seen (cond t l (home a j)) (option_map shown (cond t o (record_in a j)))
+          ≡ cond t (seen l (option_map shown o)) (seen (home a j) (option_map shown (record_in a j)))
       here j true = refl
       here j false = refl
 
@@ -119,17 +145,21 @@ module _ {R : Type 0} (shown : R → Live) (g : Setting) (a b : Slots R) (i gen 
     groups = set.groups;
   }
 
-  pub weights_of : weight_of a ≡ (λ j. weight_by (seen (home a j) (option_map shown (record_in a j)))) → w ≡ weight_by (seen l (option_map shown o)) → weight_of b ≡ (λ j. weight_by (seen (home b j) (option_map shown (record_in b j))))
+  pub weights_of : weight_of a ≡ (λ j. weight_by (seen (home a j) (option_map shown (record_in a j))))
+      → w ≡ weight_by (seen l (option_map shown o)) → weight_of b ≡ (λ j. weight_by (seen (home b j) (option_map shown (record_in b j))))
   weights_of weights heavy = h.weights
       ∙ ((λ z. put (weights z) i (heavy z))
       ∙ (sym (map_put weight_by (λ j. seen (home a j) (option_map shown (record_in a j))) i (seen l (option_map shown o)))
       ∙ (λ z j. weight_by (sym shown_requests z j))))
 
   -- the engine's condition, from the tables' and what the slot weighs
-  pub core_of : (q r : Postings) (m n : Instances) → IsCore shown g a q m → groups_of r ≡ groups_of q → r.places ≡ q.places → ((k : Key) (x : ℕ) → members n k ≡ Some x → x ≡ size g k.comm)
+  pub core_of : (q r : Postings) (m n : Instances) → IsCore shown g a q m → groups_of r ≡ groups_of q → r.places ≡ q.places
+      → ((k : Key) (x : ℕ) → members n k ≡ Some x → x ≡ size g k.comm)
       → w ≡ weight_by (seen l (option_map shown o)) → IsSound (tables shown g b r n) → IsCore shown g b r n
-  core_of q r m n c groups places sizes heavy sound = record { set = set_of q r c.set groups places; sound = sound; sizes = sizes; weights = weights_of c.weights heavy }
+  core_of q r m n c groups places sizes heavy sound =
+      record { set = set_of q r c.set groups places; sound = sound; sizes = sizes; weights = weights_of c.weights heavy }
 
   -- a move shows the same requests
-  pub shown_same : seen (home a i) (option_map shown (record_in a i)) ≡ seen l (option_map shown o) → ◌≡◌ {A = ℕ → Option Live} (λ j. seen (home b j) (option_map shown (record_in b j))) (λ j. seen (home a j) (option_map shown (record_in a j)))
+  pub shown_same : seen (home a i) (option_map shown (record_in a i)) ≡ seen l (option_map shown o)
+      → ◌≡◌ {A = ℕ → Option Live} (λ j. seen (home b j) (option_map shown (record_in b j))) (λ j. seen (home a j) (option_map shown (record_in a j)))
   shown_same e = shown_requests ∙ put_self (λ j. seen (home a j) (option_map shown (record_in a j))) i (seen l (option_map shown o)) e

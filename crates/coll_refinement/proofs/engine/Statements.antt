@@ -18,7 +18,8 @@ use Rattle.coll_arena.specs.ListNames.{number_of}
 use Rattle.coll_arena.specs.Slots.{Slots, home, record_in, lent}
 use Rattle.coll_queues.specs.Postings.{Postings, groups_of, number_of as number_in, place_of, posts}
 use Rattle.coll_machine.specs.declared.key.Key.{Key}
-use Rattle.coll_machine.specs.Common.{put_key, Setting, AreGroups, size, Planned, Post, Init, Start, Retire, Free, Ticketed, Outcome, Nothing, refusal, first_of, unless, wrong_length, lent_bytes, MachineStep, MayFinish, StepsTo}
+use Rattle.coll_machine.specs.Common.{put_key, Setting, AreGroups, size, Planned, Post, Init, Start, Retire, Free, Ticketed, Outcome, Nothing}
+use Rattle.coll_machine.specs.Common.{refusal, first_of, unless, wrong_length, lent_bytes, MachineStep, MayFinish, StepsTo}
 use Rattle.coll_match.specs.Instances.{given, mail, members, seats}
 use Rattle.coll_refinement.specs.Requests.{Live, at, key, before}
 use Rattle.coll_refinement.specs.Sound.{next, Doable}

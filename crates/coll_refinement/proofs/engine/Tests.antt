@@ -1,5 +1,6 @@
 -- The tests of the engine are the machine's.
-use Rattle.std.proofs.Common.{◌≡◌, ℕ, zero, suc, ◌+◌, ◌==◌, ◌&&◌, ◌||◌, ◌<◌, ◌≤◌, ◌⊎◌, inl, inr, Bool, true, false, ltb, List, [], ◌∷◌, length, Option, Some, None, is_some, is_none, refl, sym, ap, subst, ◌∙◌, arith, eqb-true, ltb-true, lt-ltb}
+use Rattle.std.proofs.Common.{◌≡◌, ℕ, zero, suc, ◌+◌, ◌==◌, ◌&&◌, ◌||◌, ◌<◌, ◌≤◌, ◌⊎◌, inl, inr, Bool, true, false, ltb, List, [], ◌∷◌, length}
+use Rattle.std.proofs.Common.{Option, Some, None, is_some, is_none, refl, sym, ap, subst, ◌∙◌, arith, eqb-true, ltb-true, lt-ltb}
 use Rattle.std.specs.Prelude.{option_map, nat_lt}
 use Rattle.std.specs.List.{list_any, range_with_len}
 use Rattle.std.specs.Option.{option_or}
@@ -33,7 +34,8 @@ any_in : (p : ℕ → Bool) (k n i : ℕ) → k ≤ i → i < k + n → p i ≡ 
 any_in p k zero i low high e = absurd (omega (arith, low, high))
 any_in p k (suc n) i low high e = go (cases_eq k i) (p k) refl (λ d. any_in p (k + 1) n i (omega (arith, low, d)) (omega (arith, high)) e)
   where
-    go : (k ≡ i) ⊎ (k ≡ i → ⊥) → (b : Bool) → p k ≡ b → ((k ≡ i → ⊥) → list_any p (range_with_len (k + 1) n) ≡ true) → (p k || list_any p (range_with_len (k + 1) n)) ≡ true
+    go : (k ≡ i) ⊎ (k ≡ i → ⊥) → (b : Bool) → p k ≡ b → ((k ≡ i → ⊥) → list_any p (range_with_len (k + 1) n) ≡ true)
+        → (p k || list_any p (range_with_len (k + 1) n)) ≡ true
     go c true f later = ap (λ b. b || list_any p (range_with_len (k + 1) n)) f
     go (inl x) false f later = absurd (false≢true (sym f ∙ (ap p x ∙ e)))
     go (inr d) false f later = ap (λ b. b || list_any p (range_with_len (k + 1) n)) f ∙ later d
@@ -57,7 +59,8 @@ module _ {R : Type 0} (shown : R → Live) (g : Setting) (a : Slots R) (q : Post
       let wear : g.wear ≡ a.wear = c.set.wear_is in
       by (record_in a i) refl both.0 young wear (cases_eq (home a i) 0) (cases_eq (home a i) 1)
     where
-      by : (o : Option R) → record_in a i ≡ o → is_none (asked (seen (home a i) (option_map shown (record_in a i)))) ≡ true → generation_of a i < g.wear → g.wear ≡ a.wear → (home a i ≡ 0) ⊎ (home a i ≡ 0 → ⊥) → (home a i ≡ 1) ⊎ (home a i ≡ 1 → ⊥) → home a i ≡ 0
+      by : (o : Option R) → record_in a i ≡ o → is_none (asked (seen (home a i) (option_map shown (record_in a i)))) ≡ true
+          → generation_of a i < g.wear → g.wear ≡ a.wear → (home a i ≡ 0) ⊎ (home a i ≡ 0 → ⊥) → (home a i ≡ 1) ⊎ (home a i ≡ 1 → ⊥) → home a i ≡ 0
       by o r n young wear (inl z) w = z
       by (Some x) r n young wear (inr d) w = absurd (false≢true (ap (λ (o : Option R). is_none (asked (seen (home a i) (option_map shown o)))) (sym r) ∙ n))
       by None r n young wear (inr d) (inl z) = let old : generation_of a i ≡ a.wear = (s.slots i low).worn z in absurd (omega (arith, old, young, wear))
@@ -69,8 +72,11 @@ module _ {R : Type 0} (shown : R → Live) (g : Setting) (a : Slots R) (q : Post
   free_spare i first =
       let f = free_first a s i first in
       let none : record_in a i ≡ None = none_of (record_in a i) ((s.slots i f.0).recorded ∙ ap (λ l. nat_lt 1 l) f.1) in
-      let young : generation_of a i < g.wear = subst (λ n. generation_of a i < n) (sym c.set.wear_is) ((s.slots i f.0).free f.1) in
-      (f.0, and_from (is_none ((state v).request i)) (ltb (generation_of a i) g.wear) (ap (λ (o : Option R). is_none (asked (seen (home a i) (option_map shown o)))) none) (lt-ltb (generation_of a i) g.wear young))
+      let young : generation_of a i < g.wear = subst (λ n. generation_of a i < n) (sym c.set.wear_is) ((s.slots i f.0).free f.1) in (
+        f.0,
+        and_from (is_none ((state v).request i)) (ltb (generation_of a i) g.wear)
+            (ap (λ (o : Option R). is_none (asked (seen (home a i) (option_map shown o)))) none) (lt-ltb (generation_of a i) g.wear young),
+      )
 
   pub full_is : full g (state v) ≡ full_refusal a
   full_is = ap (λ b. unless b Full) (go (sequence a.lists 0) refl)
@@ -86,14 +92,16 @@ module _ {R : Type 0} (shown : R → Live) (g : Setting) (a : Slots R) (q : Post
               by true f =
                   let slots : g.slots ≡ count a = c.set.slots_is in
                   let low : i < count a = omega (arith, l, slots) in
-                  let stands : 0 < times i (sequence a.lists 0) = (StandsAtHome-sound a s i 0 (omega (arith, s.lists_is))).at_home.1 (low, spare_free i low f) in
+                  let stands : 0 < times i (sequence a.lists 0) =
+                  (StandsAtHome-sound a s i 0 (omega (arith, s.lists_is))).at_home.1 (low, spare_free i low f) in
                   let none : times i (sequence a.lists 0) ≡ 0 = ap (times i) e in
                   absurd (omega (arith, stands, none))
       go (x ∷ xs) e =
           let f = free_spare x (ap first_in e) in
           let slots : g.slots ≡ count a = c.set.slots_is in
           let low : x < count a = f.0 in
-          let some : true ≡ nat_lt 0 (length (sequence a.lists 0)) = sym (lt-ltb 0 (length (x ∷ xs)) (omega arith)) ∙ sym (ap (λ (xs : List ℕ). nat_lt 0 (length xs)) e) in
+          let some : true ≡ nat_lt 0 (length (sequence a.lists 0)) =
+          sym (lt-ltb 0 (length (x ∷ xs)) (omega arith)) ∙ sym (ap (λ (xs : List ℕ). nat_lt 0 (length xs)) e) in
           any_in spare 0 g.slots x (omega arith) (omega (arith, slots, low)) f.1 ∙ some
 
 -- ---- posting lists
@@ -127,7 +135,17 @@ in_turn_short None None None None None None None k = refl
 
 module _ {R : Type 0} (shown : R → Live) (g : Setting) (a : Slots R) (q : Postings) (m : Instances) (c : IsCore shown g a q m) where
   setting_is : g ≡ by_lists g q
-  setting_is = λ z. record { ranks = g.ranks; groups = c.set.groups_is z; slots = g.slots; places = c.set.places_is z; wear = g.wear; starts = g.starts; trace = g.trace }
+  setting_is =
+      λ z. record {
+        ranks = g.ranks;
+        groups = c.set.groups_is z;
+        slots = g.slots;
+        places = c.set.places_is z;
+        wear =
+            g.wear;
+        starts = g.starts;
+        trace = g.trace;
+      }
 
 -- the conditions of a posting, by themselves
 module _ (q : Postings) (rank comm : ℕ) (mode : Mode) (plan : Planned) where
@@ -155,10 +173,13 @@ module _ (q : Postings) (rank comm : ℕ) (mode : Mode) (plan : Planned) where
 pub post_refused : {R : Type 0} → PostRefused R
 post_refused {R} shown g a q m rank comm plan bytes c s =
     ap (λ (u : Setting). refusal u (state v) (Post rank comm plan bytes)) (setting_is shown g a q m c)
-    ∙ ((λ z. first_of (no_comm q rank comm Once plan ∷ no_member q rank comm Once plan ∷ is_broken q rank comm Once plan ∷ other_mode q rank comm Once plan ∷ other_group q rank comm Once plan
+    ∙ ((λ z. first_of (no_comm q rank comm Once plan ∷ no_member q rank comm Once plan ∷ is_broken q rank comm Once plan
+    ∷ other_mode q rank comm Once plan ∷ other_group q rank comm Once plan
     ∷ differs q rank comm Once plan ∷ used q rank comm Once plan ∷ wrong_length plan.sig (size_in q comm) (number_in q comm rank) bytes ∷ room z ∷ []))
-    ∙ in_turn (no_comm q rank comm Once plan) (no_member q rank comm Once plan) (is_broken q rank comm Once plan) (other_mode q rank comm Once plan) (other_group q rank comm Once plan) (differs q rank comm Once plan)
-    (wrong_length plan.sig (size_in q comm) (number_in q comm rank) bytes) (wrong_length plan.sig plan.n plan.member bytes) (used q rank comm Once plan) (full_refusal a) same_length)
+    ∙ in_turn (no_comm q rank comm Once plan) (no_member q rank comm Once plan) (is_broken q rank comm Once plan)
+    (other_mode q rank comm Once plan) (other_group q rank comm Once plan) (differs q rank comm Once plan)
+    (wrong_length plan.sig (size_in q comm) (number_in q comm rank) bytes) (wrong_length plan.sig plan.n plan.member bytes)
+    (used q rank comm Once plan) (full_refusal a) same_length)
   where
     v : Tables
     v = tables shown g a q m
@@ -166,7 +187,8 @@ post_refused {R} shown g a q m rank comm plan bytes c s =
     room : full (by_lists g q) (state v) ≡ full_refusal a
     room = full_is shown g a q m c s
 
-    same_length : other_group q rank comm Once plan ≡ None → wrong_length plan.sig (size_in q comm) (number_in q comm rank) bytes ≡ wrong_length plan.sig plan.n plan.member bytes
+    same_length : other_group q rank comm Once plan ≡ None
+        → wrong_length plan.sig (size_in q comm) (number_in q comm rank) bytes ≡ wrong_length plan.sig plan.n plan.member bytes
     same_length e =
         let both = and_parts (plan.n == size_in q comm) (plan.member == number_in q comm rank) (fits _ (BadSignature WrongGroup) e) in
         let n : plan.n ≡ size_in q comm = eqb-true plan.n (size_in q comm) both.0 in
@@ -176,9 +198,11 @@ post_refused {R} shown g a q m rank comm plan bytes c s =
 pub init_refused : {R : Type 0} → InitRefused R
 init_refused {R} shown g a q m rank comm plan c s =
     ap (λ (u : Setting). refusal u (state v) (Init rank comm plan)) (setting_is shown g a q m c)
-    ∙ ((λ z. first_of (no_comm q rank comm Persistent plan ∷ no_member q rank comm Persistent plan ∷ is_broken q rank comm Persistent plan ∷ other_mode q rank comm Persistent plan ∷ other_group q rank comm Persistent plan
+    ∙ ((λ z. first_of (no_comm q rank comm Persistent plan ∷ no_member q rank comm Persistent plan
+    ∷ is_broken q rank comm Persistent plan ∷ other_mode q rank comm Persistent plan ∷ other_group q rank comm Persistent plan
     ∷ differs q rank comm Persistent plan ∷ used q rank comm Persistent plan ∷ room z ∷ []))
-    ∙ in_turn_short (no_comm q rank comm Persistent plan) (no_member q rank comm Persistent plan) (is_broken q rank comm Persistent plan) (other_mode q rank comm Persistent plan) (other_group q rank comm Persistent plan)
+    ∙ in_turn_short (no_comm q rank comm Persistent plan) (no_member q rank comm Persistent plan)
+    (is_broken q rank comm Persistent plan) (other_mode q rank comm Persistent plan) (other_group q rank comm Persistent plan)
     (differs q rank comm Persistent plan) (used q rank comm Persistent plan) (full_refusal a))
   where
     v : Tables

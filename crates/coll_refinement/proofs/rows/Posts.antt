@@ -16,7 +16,9 @@ use Rattle.coll_refinement.specs.Tables.{Tables}
 use Rattle.coll_refinement.specs.Changes.{posting, leaving}
 use Rattle.coll_refinement.proofs.tables.CallTests.{Acting, Away, Starting, IsLast, New, Retiring, Waking}
 use Rattle.coll_refinement.specs.Sound.{IsSound, ready, done, next}
-use Rattle.coll_refinement.specs.Rows.{scatter, both, laid, kept, at, byte, moved, unused, root, posted, sender, sent, copier, copied, left, late, posted_late, receiver, received_late, RootPosts, RootSends, RootCopies, RootLeaves, OtherPosts, OtherReceives, OtherLeaves, RowsAreSound}
+use Rattle.coll_refinement.specs.Rows.{scatter, both, laid, kept, at, byte, moved, unused, root, posted, sender, sent, copier, copied, left, late}
+use Rattle.coll_refinement.specs.Rows.{posted_late, receiver, received_late, RootPosts, RootSends, RootCopies, RootLeaves, OtherPosts, OtherReceives}
+use Rattle.coll_refinement.specs.Rows.{OtherLeaves, RowsAreSound}
 use Rattle.coll_refinement.proofs.tables.Accepted.{accepted_post}
 use Rattle.coll_refinement.proofs.tables.Actions.{compute_keeps, receive_keeps, send_keeps}
 use Rattle.coll_refinement.proofs.tables.Finished.{open_keeps}

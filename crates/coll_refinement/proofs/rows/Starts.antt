@@ -14,7 +14,11 @@ use Rattle.coll_refinement.specs.Requests.{advanced}
 use Rattle.coll_refinement.proofs.tables.CallTests.{Acting, Starting, IsLast, Joining, New, Retiring, Waking}
 use Rattle.coll_refinement.specs.Sound.{ready, running, queued, done, next}
 use Rattle.coll_refinement.specs.Rows.{at, byte, moved, unused}
-use Rattle.coll_refinement.specs.StartRows.{sums, first, inited_one, second, inited, given, laid, kept, started, sender, sent, copier, waiting, other_given, other_laid, filled, both_started, other, answered, woken, waiter, has_received, combined_to, out, combiner, combined, left, InitsFirst, InitsSecond, SecondFrees, WaiterStarts, WaiterSends, WaiterWaits, OtherStarts, WaiterWakes, WaiterReceives, CombineGoesOut, WaiterCombines, WaiterRetires, StartRowsAreSound}
+use Rattle.coll_refinement.specs.StartRows.{sums, first, inited_one, second, inited, given, laid, kept, started, sender, sent, copier, waiting}
+use Rattle.coll_refinement.specs.StartRows.{other_given, other_laid, filled, both_started, other, answered, woken, waiter, has_received, combined_to}
+use Rattle.coll_refinement.specs.StartRows.{out, combiner, combined, left, InitsFirst, InitsSecond, SecondFrees, WaiterStarts, WaiterSends}
+use Rattle.coll_refinement.specs.StartRows.{WaiterWaits, OtherStarts, WaiterWakes, WaiterReceives, CombineGoesOut, WaiterCombines, WaiterRetires}
+use Rattle.coll_refinement.specs.StartRows.{StartRowsAreSound}
 use Rattle.coll_refinement.proofs.tables.Accepted.{accepted_init, accepted_start}
 use Rattle.coll_refinement.proofs.tables.Actions.{compute_keeps, receive_keeps, send_keeps, rehome_keeps}
 use Rattle.coll_refinement.proofs.rows.Posts.{away, opens}

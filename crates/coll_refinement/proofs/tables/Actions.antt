@@ -39,7 +39,8 @@ not_both n l mail q (idle t e p) h = let x : l ≡ 5 + 3 * q.comm = h.on_queue i
 not_both n l mail q (ready a t e nx d) h = let x : l ≡ 5 + 3 * q.comm = h.on_queue in absurd (omega arith)
 not_both n l mail q (running op ty a b into t e nx) h = let x : l ≡ 5 + 3 * q.comm = h.on_queue in absurd (omega arith)
 not_both n l mail q (done t e r) h = let x : l ≡ 5 + 3 * q.comm = h.on_queue in absurd (omega arith)
-not_both n l mail q (queued of into t e nx none) h = h.came (subst (λ x. mail x q.member q.round ≡ None) (same_of (same_Some (Recv of into) (Recv h.of h.into) (sym nx ∙ h.next_is))) none)
+not_both n l mail q (queued of into t e nx none) h =
+    h.came (subst (λ x. mail x q.member q.round ≡ None) (same_of (same_Some (Recv of into) (Recv h.of h.into) (sym nx ∙ h.next_is))) none)
   where
     same_of : {a b : ℕ} {g k : Region} → Recv a g ≡ Recv b k → a ≡ b
     same_of e = cc
@@ -55,19 +56,24 @@ module _ (v : Tables) (i : ℕ) (q : Live) (a : Action) (o : Progress) (home : �
   stepped mail after = acted_steps v i q h.here o mail home h.away (not_done (v.home i) q.comm h.list) after
 
 pub compute_keeps : ComputeKeeps
-compute_keeps v i q a o home s h loc b mine = (record { paths = ways v i q a o home s h; sound = sound }, stepped v i q a o home s h v.mail (ways v i q a o home s h) sound)
+compute_keeps v i q a o home s h loc b mine =
+    (record { paths = ways v i q a o home s h; sound = sound }, stepped v i q a o home s h v.mail (ways v i q a o home s h) sound)
   where
     sound : Sound (acting v i q o v.mail home) (ways v i q a o home s h)
     sound = sound_compute v s.paths s.sound i q h.here (moves v i q a o home s h) o home h.away a h.next_is loc b h.over mine
 
 pub receive_keeps : ReceiveKeeps
-receive_keeps v i q of into bytes o home s h there b mine = (record { paths = ways v i q (Recv of into) o home s h; sound = sound }, stepped v i q (Recv of into) o home s h (received v q of) (ways v i q (Recv of into) o home s h) sound)
+receive_keeps v i q of into bytes o home s h there b mine = (
+  record { paths = ways v i q (Recv of into) o home s h; sound = sound },
+  stepped v i q (Recv of into) o home s h (received v q of) (ways v i q (Recv of into) o home s h) sound,
+)
   where
     sound : Sound (acting v i q o (received v q of) home) (ways v i q (Recv of into) o home s h)
     sound = sound_receive v s.paths s.sound i q h.here (moves v i q (Recv of into) o home s h) o home h.away of into bytes h.next_is there b h.over mine
 
 pub send_keeps : SendKeeps
-send_keeps v i q to from o home s h b mine = (λ none. let x = still none in (record { paths = after; sound = x }, stepped v i q (Send to from) o home s h (delivered v q to from) after x), woken)
+send_keeps v i q to from o home s h b mine =
+    (λ none. let x = still none in (record { paths = after; sound = x }, stepped v i q (Send to from) o home s h (delivered v q to from) after x), woken)
   where
     w : Tables
     w = acting v i q o (delivered v q to from) home
@@ -84,8 +90,12 @@ send_keeps v i q to from o home s h b mine = (λ none. let x = still none in (re
     here : put v.request i (Some (advanced q o)) i ≡ Some (advanced q o)
     here = put_same v.request i (Some (advanced q o))
 
-    woken : (j : ℕ) (later : ℕ → ℕ) → Waking w (key q) to j → later j ≡ 2 → Away w j later → IsSound (rehoming w later) × MayFinish v.setting (machine v) (machine (rehoming w later))
-    woken j later x two away = (record { paths = after; sound = sound }, may_finish (rehoming w later) after sound i (advanced q o) here (machine v) (sym (acted_state v i q h.here o (delivered v q to from) home)) pending now)
+    woken : (j : ℕ) (later : ℕ → ℕ) → Waking w (key q) to j → later j ≡ 2 → Away w j later
+        → IsSound (rehoming w later) × MayFinish v.setting (machine v) (machine (rehoming w later))
+    woken j later x two away = (
+      record { paths = after; sound = sound },
+      may_finish (rehoming w later) after sound i (advanced q o) here (machine v) (sym (acted_state v i q h.here o (delivered v q to from) home)) pending now,
+    )
       where
         sound : Sound (rehoming w later) after
         sound = wakened w after (key q) to gone j x.req later x.seat x.is x.called two away
@@ -94,7 +104,8 @@ send_keeps v i q to from o home s h b mine = (λ none. let x = still none in (re
         apart e =
             let same : advanced q o ≡ x.req = same_Some (advanced q o) x.req (sym here ∙ (ap (put v.request i (Some (advanced q o))) e ∙ x.is)) in
             not_both (size v.setting q.comm) (home i) (delivered v q to from (key q)) (advanced q o) mine
-            (subst (λ (r : Live). Called (size v.setting r.comm) (delivered v q to from (key r)) (home i) r) (sym same) (subst (λ l. Called (size v.setting x.req.comm) (delivered v q to from (key x.req)) (home l) x.req) (sym e) x.called))
+            (subst (λ (r : Live). Called (size v.setting r.comm) (delivered v q to from (key r)) (home i) r) (sym same)
+            (subst (λ l. Called (size v.setting x.req.comm) (delivered v q to from (key x.req)) (home l) x.req) (sym e) x.called))
 
         pending : (machine v).done i ≡ false
         pending = ap (is_done (v.home i)) h.here ∙ ne_eqb (v.home i) (6 + 3 * q.comm) (not_done (v.home i) q.comm h.list)
@@ -104,7 +115,8 @@ send_keeps v i q to from o home s h b mine = (λ none. let x = still none in (re
             ∙ (done_changes v i (Some (advanced q o)) home h.away ∙ ap (λ l. put (machine v).done i (is_done l (Some (advanced q o)))) (sym (away i apart)))
 
 pub rehome_keeps : RehomeKeeps
-rehome_keeps v i q home s here was is away mine = (record { paths = s.paths; sound = sound }, λ z. record { state = state v; done = λ j. same j (cases_eq j i) z })
+rehome_keeps v i q home s here was is away mine =
+    (record { paths = s.paths; sound = sound }, λ z. record { state = state v; done = λ j. same j (cases_eq j i) z })
   where
     sound : Sound (rehoming v home) s.paths
     sound = all_stand (rehoming v home) s.paths i (record {
@@ -116,4 +128,8 @@ rehome_keeps v i q home s here was is away mine = (record { paths = s.paths; sou
 
     same : (j : ℕ) → (j ≡ i) ⊎ (j ≡ i → ⊥) → is_done (home j) (v.request j) ≡ is_done (v.home j) (v.request j)
     same j (inr d) = ap (λ l. is_done l (v.request j)) (away j d)
-    same j (inl e) = (λ z. is_done (home (e z)) (v.request (e z))) ∙ (ap (is_done (home i)) here ∙ (ne_eqb (home i) (6 + 3 * q.comm) is ∙ (sym (ne_eqb (v.home i) (6 + 3 * q.comm) was) ∙ (ap (is_done (v.home i)) (sym here) ∙ (λ z. is_done (v.home (sym e z)) (v.request (sym e z)))))))
+    same j (inl e) =
+        (λ z. is_done (home (e z)) (v.request (e z)))
+        ∙ (ap (is_done (home i)) here
+        ∙ (ne_eqb (home i) (6 + 3 * q.comm) is
+        ∙ (sym (ne_eqb (v.home i) (6 + 3 * q.comm) was) ∙ (ap (is_done (v.home i)) (sym here) ∙ (λ z. is_done (v.home (sym e z)) (v.request (sym e z)))))))

@@ -1,5 +1,6 @@
 -- The actions that are left.
-use Rattle.std.proofs.Common.{◌≡◌, ℕ, zero, suc, ◌+◌, ◌*◌, ◌<◌, ◌≤◌, Bool, true, false, List, [], ◌∷◌, length, Option, Some, None, refl, sym, ap, subst, ◌∙◌, arith}
+use Rattle.std.proofs.Common.{◌≡◌, ℕ, zero, suc, ◌+◌, ◌*◌, ◌<◌, ◌≤◌, Bool, true, false, List, [], ◌∷◌, length, Option, Some, None, refl, sym, ap}
+use Rattle.std.proofs.Common.{subst, ◌∙◌, arith}
 use Rattle.std.proofs.lemmas.Bool.{cond-true, cond-false}
 use Rattle.std.proofs.lemmas.Option.{slice_get_within}
 use Rattle.std.proofs.Math.Nat.{mul-suc}
@@ -47,7 +48,9 @@ module _ (v : Tables) (s : IsSound v) (i : ℕ) (q : Live) (here : v.request i �
   left_inactive f = cond-false q.active (remaining mine q.round q.index) 0 f
 
   planned_own : IsPlanned q.sig q.members (family q.sig q.members)
-  planned_own = subst (λ n. IsPlanned q.sig n (family q.sig n)) (sym (s.sound.base.sized i q here)) (s.sound.base.planned q.comm q.place q.sig (signed_own v s.paths s.sound.base i q here))
+  planned_own =
+      subst (λ n. IsPlanned q.sig n (family q.sig n)) (sym (s.sound.base.sized i q here))
+      (s.sound.base.planned q.comm q.place q.sig (signed_own v s.paths s.sound.base i q here))
 
   pub left_few : left_of q ≤ most_actions
   left_few = by q.active refl
@@ -66,12 +69,30 @@ acts_lower v i q a o mail home s h =
     let f = family q.sig q.members in
     let sized : q.members ≡ n = s.sound.base.sized i q h.here in
     let t : q.active ≡ true = going n (v.home i) (v.mail (key q)) q h.list (s.sound.stands i q h.here) in
-    let within : q.index < length (actions_of (f q.member) q.round) = subst (λ m. q.index < length (actions_of (family q.sig m q.member) q.round)) (sym sized) (slice_get_within (actions_of (family q.sig n q.member) q.round) q.index a h.next_is) in
-    let low : remaining (f q.member) q.round q.index ≡ suc (remaining (f q.member) q.round (suc q.index)) = lowers_remaining (f q.member) q.round q.index within in
-    let keep : remaining (f q.member) o.round o.index ≡ remaining (f q.member) q.round (suc q.index) = subst (λ m. remaining (family q.sig m q.member) o.round o.index ≡ remaining (family q.sig m q.member) q.round (suc q.index)) (sym sized) (keeps_remaining (family q.sig n q.member) q.round (suc q.index) o.round o.index h.over) in
+    let within : q.index < length (actions_of (f q.member) q.round) =
+    subst (λ m. q.index < length (actions_of (family q.sig m q.member) q.round)) (sym sized)
+    (slice_get_within (actions_of (family q.sig n q.member) q.round) q.index a h.next_is) in
+    let low : remaining (f q.member) q.round q.index ≡ suc (remaining (f q.member) q.round (suc q.index)) =
+    lowers_remaining (f q.member) q.round q.index within in
+    let keep : remaining (f q.member) o.round o.index ≡ remaining (f q.member) q.round (suc q.index) =
+    subst (λ m. remaining (family q.sig m q.member) o.round o.index ≡ remaining (family q.sig m q.member) q.round (suc q.index))
+    (sym sized) (keeps_remaining (family q.sig n q.member) q.round (suc q.index) o.round o.index h.over) in
     let was : left_by (v.request i) ≡ remaining (f q.member) q.round q.index = ap left_by h.here ∙ left_active v s i q h.here t in
     let is : left_of (advanced q o) ≡ remaining (f q.member) o.round o.index = cond-true q.active (remaining (f q.member) o.round o.index) 0 t in
-    let sum : actions_left (record { setting = v.setting; generation = v.generation; request = put v.request i (Some (advanced q o)); home = home; posts = v.posts; signed = v.signed; given = v.given; seats = v.seats; mail = mail }) + left_by (v.request i) ≡ actions_left v + left_of (advanced q o) = sum_to-put left_by v.request i (Some (advanced q o)) v.setting.slots (s.sound.numbered i q h.here).0 in
+    let sum : actions_left (record {
+      setting = v.setting;
+      generation = v.generation;
+      request =
+          put v.request i (Some (advanced q o));
+      home = home;
+      posts = v.posts;
+      signed = v.signed;
+      given = v.given;
+      seats = v.seats;
+      mail = mail;
+    })
+    + left_by (v.request i) ≡ actions_left v + left_of (advanced q o) =
+    sum_to-put left_by v.request i (Some (advanced q o)) v.setting.slots (s.sound.numbered i q h.here).0 in
     omega arith
 
 pub little_left : LittleLeft

@@ -29,7 +29,8 @@ off_key {X} f k x a d = go (put_key_cases f k x a)
     go (inr h) = h.1
 
 -- at the key and the member, or elsewhere
-pub in_cases : {X : Type 0} (f : Key → ℕ → X) (k : Key) (m : ℕ) (x : X) (a : Key) (b : ℕ) → ((a ≡ k) × (b ≡ m) × (put_in f k m x a b ≡ x)) ⊎ (((a ≡ k) → (b ≡ m) → ⊥) × (put_in f k m x a b ≡ f a b))
+pub in_cases : {X : Type 0} (f : Key → ℕ → X) (k : Key) (m : ℕ) (x : X) (a : Key) (b : ℕ)
+    → ((a ≡ k) × (b ≡ m) × (put_in f k m x a b ≡ x)) ⊎ (((a ≡ k) → (b ≡ m) → ⊥) × (put_in f k m x a b ≡ f a b))
 in_cases {X} f k m x a b = go (split_key a k) (cases_eq b m)
   where
     go : (a ≡ k) ⊎ (a ≢ k) → (b ≡ m) ⊎ (b ≡ m → ⊥) → ((a ≡ k) × (b ≡ m) × (put_in f k m x a b ≡ x)) ⊎ (((a ≡ k) → (b ≡ m) → ⊥) × (put_in f k m x a b ≡ f a b))

@@ -1,5 +1,6 @@
 -- What the condition says of a request to the machine: its count, its instance, and its value when it is done.
-use Rattle.std.proofs.Common.{◌≡◌, ℕ, zero, suc, ◌+◌, ◌*◌, ◌<◌, ◌≢◌, ◌⊎◌, inl, inr, Bool, true, false, cond, eqb, List, ◌∷◌, length, map, replicate, unwrap_or, Option, Some, None, refl, sym, ap, ◌∙◌, arith, subst}
+use Rattle.std.proofs.Common.{◌≡◌, ℕ, zero, suc, ◌+◌, ◌*◌, ◌<◌, ◌≢◌, ◌⊎◌, inl, inr, Bool, true, false, cond, eqb, List, ◌∷◌, length, map, replicate}
+use Rattle.std.proofs.Common.{unwrap_or, Option, Some, None, refl, sym, ap, ◌∙◌, arith, subst}
 use Rattle.std.specs.List.{range_with_len}
 use Rattle.std.proofs.lemmas.Option.{none-some, same_Some}
 use Rattle.std.proofs.lemmas.Bool.{cases_eq}
@@ -47,7 +48,8 @@ before_less (suc n) h = refl
 module _ (v : Tables) (paths : Paths) (b : Base v paths) where
   -- an active request has given to the instance that it works on
   pub has_given : (i : ℕ) (q : Live) → v.request i ≡ Some q → q.active ≡ true → v.given (key q) q.member ≢ None
-  has_given i q here t = ((b.tracks (key q)).members q.member (progress q) (b.active i q here t).0).heard q.member (heard_self (family_at v (key q)) q.round q.member)
+  has_given i q here t =
+      ((b.tracks (key q)).members q.member (progress q) (b.active i q here t).0).heard q.member (heard_self (family_at v (key q)) q.round q.member)
 
   -- so it was started, and works on its last start
   pub counted : (i : ℕ) (q : Live) → v.request i ≡ Some q → q.active ≡ true → suc (before q.starts) ≡ q.starts
@@ -68,7 +70,8 @@ module _ (v : Tables) (paths : Paths) (b : Base v paths) where
           let count : suc w.start ≡ q.starts = w.last ∙ ap (λ (r : Request). r.starts) (sym o.2) in
           let same : key q ≡ k = (λ z. record { comm = (o.2 z).comm; place = (o.2 z).place; start = before (sym count z) }) ∙ w.key_is in
           let mine : q.member ≡ m = ap (λ (r : Request). r.member) o.2 ∙ w.member_is in
-          none-some w.slot (sym (last m low).1 ∙ ((λ z. v.seats (sym same z) (sym mine z)) ∙ (b.active w.slot q o.1 (ap (λ (r : Request). r.active) o.2 ∙ w.active)).1))
+          none-some w.slot (sym (last m low).1 ∙ ((λ z. v.seats (sym same z) (sym mine z))
+          ∙ (b.active w.slot q o.1 (ap (λ (r : Request). r.active) o.2 ∙ w.active)).1))
 
   pub over_is_last : (k : Key) → IsOver v.setting (state v) k → IsLast v k
   over_is_last k over m low = ((over m low).0, go (v.seats k m) refl)
@@ -77,7 +80,17 @@ module _ (v : Tables) (paths : Paths) (b : Base v paths) where
       go None e = e
       go (Some i) e =
           let w = b.owner k m i e in
-          absurd ((over m low).1 (record { slot = i; request = as_request w.req; is = ap asked w.is; active = w.active; member_is = w.member_is; start = before w.req.starts; key_is = w.key_is; last = counted i w.req w.is w.active }))
+          absurd ((over m low).1 (record {
+            slot = i;
+            request = as_request w.req;
+            is = ap asked w.is;
+            active =
+                w.active;
+            member_is = w.member_is;
+            start = before w.req.starts;
+            key_is = w.key_is;
+            last = counted i w.req w.is w.active;
+          }))
 
 -- ---- the value
 
@@ -103,7 +116,9 @@ module _ (v : Tables) (paths : Paths) (s : Sound v paths) (i : ℕ) (q : Live) (
       let n : ℕ = size v.setting q.comm in
       let f : Family = family q.sig n in
       let serves : Serves q.sig n f = serves_own v paths s.base i q here in
-      let held : HoldsValue q.sig n f (world v paths (key q)) q.member (progress q) = value_held q.sig n f serves (world v paths (key q)) (tracks_at v paths s.base i q here (before q.starts)) q.member (progress q) (s.base.active i q here over.0).0 over.1 in
+      let held : HoldsValue q.sig n f (world v paths (key q)) q.member (progress q) =
+      value_held q.sig n f serves (world v paths (key q)) (tracks_at v paths s.base i q here (before q.starts)) q.member
+      (progress q) (s.base.active i q here over.0).0 over.1 in
       record {
         active = over.0;
         needed = held.needed;

@@ -33,10 +33,23 @@ abbrev pub Seats : Type 0
 Seats = Key → ℕ → Option ℕ
 
 abbrev pub changed : Tables → ℕ → Option Live → Contributions → Seats → (Key → Mail) → (ℕ → ℕ) → Tables
-changed v i o given seats mail home = record { setting = v.setting; generation = v.generation; request = put v.request i o; home = home; posts = v.posts; signed = v.signed; given = given; seats = seats; mail = mail }
+changed v i o given seats mail home =
+    record {
+      setting = v.setting;
+      generation = v.generation;
+      request = put v.request i o;
+      home = home;
+      posts = v.posts;
+      signed =
+          v.signed;
+      given = given;
+      seats = seats;
+      mail = mail;
+    }
 
 -- what becomes of slot i, where q was, at the key k of q's place
-pub record Changes (v : Tables) (paths : Paths) (i : ℕ) (q : Live) (k : Key) (o : Option Live) (given : Contributions) (seats : Seats) (mail : Key → Mail) (after : Paths) : Type 0 where
+pub record Changes (v : Tables) (paths : Paths) (i : ℕ) (q : Live) (k : Key) (o : Option Live) (given : Contributions)
+    (seats : Seats) (mail : Key → Mail) (after : Paths) : Type 0 where
   pub here : v.request i ≡ Some q
   pub comm_is : k.comm ≡ q.comm
   pub place_is : k.place ≡ q.place
@@ -54,7 +67,8 @@ pub record Changes (v : Tables) (paths : Paths) (i : ℕ) (q : Live) (k : Key) (
 pub key_fields : (a b : Key) → a ≡ b → (a.comm ≡ b.comm) × (a.place ≡ b.place) × (a.start ≡ b.start)
 key_fields a b e = (ap (λ (k : Key). k.comm) e, ap (λ (k : Key). k.place) e, ap (λ (k : Key). k.start) e)
 
-module _ (v : Tables) (paths : Paths) (b : Base v paths) (i : ℕ) (q : Live) (k : Key) (o : Option Live) (given : Contributions) (seats : Seats) (mail : Key → Mail) (after : Paths) (c : Changes v paths i q k o given seats mail after) (home : ℕ → ℕ) where
+module _ (v : Tables) (paths : Paths) (b : Base v paths) (i : ℕ) (q : Live) (k : Key) (o : Option Live) (given : Contributions)
+    (seats : Seats) (mail : Key → Mail) (after : Paths) (c : Changes v paths i q k o given seats mail after) (home : ℕ → ℕ) where
   abbrev new : Tables
   new = changed v i o given seats mail home
 
@@ -81,7 +95,9 @@ module _ (v : Tables) (paths : Paths) (b : Base v paths) (i : ℕ) (q : Live) (k
         let d = was l s el in
         b.alone j l a.0 d.0 a.1 d.1 (sym a.2.comm ∙ (x ∙ d.2.comm)) (sym a.2.place ∙ (y ∙ d.2.place)) (sym a.2.member ∙ (z ∙ d.2.member));
     sized = λ j r e. let a = was j r e in a.2.members ∙ (b.sized j a.0 a.1 ∙ ap (size v.setting) (sym a.2.comm));
-    member_in = λ j r e. let a = was j r e in subst (λ x. x < size v.setting r.comm) (sym a.2.member) (subst (λ x. a.0.member < size v.setting x) (sym a.2.comm) (b.member_in j a.0 a.1));
+    member_in = λ j r e. let a =
+        was j r e in subst (λ x. x < size v.setting r.comm) (sym a.2.member)
+        (subst (λ x. a.0.member < size v.setting x) (sym a.2.comm) (b.member_in j a.0 a.1));
     own = λ j r e. let a = was j r e in (λ z. slice_get (v.posts (a.2.comm z) (a.2.member z)) (a.2.place z)) ∙ (b.own j a.0 a.1 ∙ ap Some (sym a.2.sig));
     agreed = b.agreed;
     signs = b.signs;
@@ -90,7 +106,8 @@ module _ (v : Tables) (paths : Paths) (b : Base v paths) (i : ℕ) (q : Live) (k
     gave = λ j r e s x. gives j r s x (put_cases v.request i o j (Some r) e);
   }
     where
-      act : (j : ℕ) (r : Live) → r.active ≡ true → ((j ≡ i) × (o ≡ Some r)) ⊎ ((j ≢ i) × (v.request j ≡ Some r)) → (after (key r) r.member ≡ Some (progress r)) × (seats (key r) r.member ≡ Some j)
+      act : (j : ℕ) (r : Live) → r.active ≡ true → ((j ≡ i) × (o ≡ Some r)) ⊎ ((j ≢ i) × (v.request j ≡ Some r))
+          → (after (key r) r.member ≡ Some (progress r)) × (seats (key r) r.member ≡ Some j)
       act j r t (inl h) =
           let a = c.active r h.1 t in
           let m : r.member ≡ q.member = (c.kin r h.1).member in
@@ -110,7 +127,9 @@ module _ (v : Tables) (paths : Paths) (b : Base v paths) (i : ℕ) (q : Live) (k
               d (sym w.key_is ∙ (ap key same ∙ c.was (ap (λ (x : Live). x.active) (sym same) ∙ w.active))) (sym w.member_is ∙ ap (λ (x : Live). x.member) same)
 
       owned : (l : Key) (m j : ℕ) → seats l m ≡ Some j → (l ≡ k) ⊎ (l ≢ k) → (m ≡ q.member) ⊎ (m ≡ q.member → ⊥) → Owned (put v.request i o) l m j
-      owned l m j e (inl x) (inl y) = subst (λ l. Owned (put v.request i o) l m j) (sym x) (subst (λ m. Owned (put v.request i o) k m j) (sym y) (c.owner j ((λ z. seats (sym x z) (sym y z)) ∙ e)))
+      owned l m j e (inl x) (inl y) =
+          subst (λ l. Owned (put v.request i o) l m j) (sym x)
+          (subst (λ m. Owned (put v.request i o) k m j) (sym y) (c.owner j ((λ z. seats (sym x z) (sym y z)) ∙ e)))
       owned l m j e (inl x) (inr y) = let d = λ (_ : l ≡ k) (h : m ≡ q.member). y h in kept l m j d (b.owner l m j (sym (c.elsewhere l m d).0 ∙ e))
       owned l m j e (inr x) y = let d = λ (h : l ≡ k) (_ : m ≡ q.member). x h in kept l m j d (b.owner l m j (sym (c.elsewhere l m d).0 ∙ e))
 
@@ -123,7 +142,9 @@ module _ (v : Tables) (paths : Paths) (b : Base v paths) (i : ℕ) (q : Live) (k
       has_posted l m (inl h) = b.posted l m h
       has_posted l m (inr h) =
           let f = key_fields l k h.0 in
-          subst (λ x. x < length (v.posts l.comm m)) (sym (f.1 ∙ c.place_is)) (subst (λ x. q.place < length (v.posts x m)) (sym (f.0 ∙ c.comm_is)) (subst (λ x. q.place < length (v.posts q.comm x)) (sym h.1) (slice_get_within (v.posts q.comm q.member) q.place q.sig (b.own i q c.here))))
+          subst (λ x. x < length (v.posts l.comm m)) (sym (f.1 ∙ c.place_is))
+          (subst (λ x. q.place < length (v.posts x m)) (sym (f.0 ∙ c.comm_is))
+          (subst (λ x. q.place < length (v.posts q.comm x)) (sym h.1) (slice_get_within (v.posts q.comm q.member) q.place q.sig (b.own i q c.here))))
 
       gives : (j : ℕ) (r : Live) (s : ℕ) → given (at r s) r.member ≢ None → ((j ≡ i) × (o ≡ Some r)) ⊎ ((j ≢ i) × (v.request j ≡ Some r)) → s < r.starts
       gives j r s x (inl h) =
@@ -136,12 +157,17 @@ module _ (v : Tables) (paths : Paths) (b : Base v paths) (i : ℕ) (q : Live) (k
           go (inr y) = let f = key_fields (at r s) k y.0 in absurd (single j r h.0 h.1 f.0 f.1 y.1)
 
 -- the tracks of all instances, where one changes
-pub retracked : (v : Tables) (paths : Paths) → ((l : Key) → Tracks (size v.setting l.comm) (family_at v l) (world v paths l)) → (k : Key) (given : Contributions) (mail : Key → Mail) (after : Paths)
+pub retracked : (v : Tables) (paths : Paths) → ((l : Key) → Tracks (size v.setting l.comm) (family_at v l) (world v paths l))
+    → (k : Key) (given : Contributions) (mail : Key → Mail) (after : Paths)
     → ((l : Key) → l ≢ k → Agrees (world v paths l) (record { given = given l; progress = after l; mail = mail l }))
     → (w : World) → Tracks (size v.setting k.comm) (family_at v k) w → Agrees w (record { given = given k; progress = after k; mail = mail k })
     → (l : Key) → Tracks (size v.setting l.comm) (family_at v l) (record { given = given l; progress = after l; mail = mail l })
 retracked v paths old k given mail after others w t mine l = go (split_key l k)
   where
     go : (l ≡ k) ⊎ (l ≢ k) → Tracks (size v.setting l.comm) (family_at v l) (record { given = given l; progress = after l; mail = mail l })
-    go (inl e) = subst (λ (l : Key). Tracks (size v.setting l.comm) (family_at v l) (record { given = given l; progress = after l; mail = mail l })) (sym e) (tracks_agrees (size v.setting k.comm) (family_at v k) w (record { given = given k; progress = after k; mail = mail k }) mine t)
-    go (inr d) = tracks_agrees (size v.setting l.comm) (family_at v l) (world v paths l) (record { given = given l; progress = after l; mail = mail l }) (others l d) (old l)
+    go (inl e) =
+        subst (λ (l : Key). Tracks (size v.setting l.comm) (family_at v l) (record { given = given l; progress = after l; mail = mail l }))
+        (sym e) (tracks_agrees (size v.setting k.comm) (family_at v k) w (record { given = given k; progress = after k; mail = mail k }) mine t)
+    go (inr d) =
+        tracks_agrees (size v.setting l.comm) (family_at v l) (world v paths l)
+        (record { given = given l; progress = after l; mail = mail l }) (others l d) (old l)

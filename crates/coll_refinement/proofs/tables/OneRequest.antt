@@ -23,7 +23,9 @@ use Rattle.coll_refinement.proofs.tables.OneChange.{Kin, Contributions, key_fiel
 
 -- where nothing was given nothing is on the way
 pub unbegun : (n : ℕ) (f g : Family) (w : World) → Tracks n f w → ((m : ℕ) → w.given m ≡ None) → Tracks n g w
-unbegun n f g w t none = tracks_agrees n g empty w (record { given = none; progress = λ r. not_begun n f w r t (none r); mail = λ q r j. nothing q r j (w.mail q r j) refl }) (tracks_empty n g)
+unbegun n f g w t none =
+    tracks_agrees n g empty w
+    (record { given = none; progress = λ r. not_begun n f w r t (none r); mail = λ q r j. nothing q r j (w.mail q r j) refl }) (tracks_empty n g)
   where
     nothing : (q r j : ℕ) (o : Option (List ℕ)) → w.mail q r j ≡ o → w.mail q r j ≡ None
     nothing q r j None e = e
@@ -52,25 +54,44 @@ module _ (v : Tables) (paths : Paths) (b : Base v paths) (i : ℕ) (q : Live) (h
       go (Some bs) e = let low : q.starts < q.starts = b.gave i q here q.starts (λ n. none-some bs (sym n ∙ e)) in absurd (omega arith)
 
   module _ (t : q.active ≡ true) where
-    pub base_acts : (p : Progress) (mail : Key → Mail) (home : ℕ → ℕ) → Tracks (size v.setting q.comm) (family_at v (key q)) (record { given = v.given (key q); progress = put (paths (key q)) q.member (Some p); mail = mail (key q) })
+    pub base_acts : (p : Progress) (mail : Key → Mail) (home : ℕ → ℕ)
+        → Tracks (size v.setting q.comm) (family_at v (key q))
+        (record { given = v.given (key q); progress = put (paths (key q)) q.member (Some p); mail = mail (key q) })
         → ((l : Key) → l ≢ key q → mail l ≡ v.mail l) → Base (acting v i q p mail home) (put_in paths (key q) q.member (Some p))
-    base_acts p mail home tr others = base_changes v paths b i q (key q) (Some (advanced q p)) v.given v.seats mail (put_in paths (key q) q.member (Some p)) (record {
-      here = here;
-      comm_is = refl;
-      place_is = refl;
-      was = λ _. refl;
-      kin = λ r e. subst (λ (x : Live). Kin x q) (same_Some (advanced q p) r e) (record { comm = refl; members = refl; member = refl; place = refl; sig = refl });
-      elsewhere = λ l m d. (refl, in_off paths (key q) q.member (Some p) l m d);
-      active = λ r e _. subst (λ (x : Live). (key x ≡ key q) × (put_in paths (key q) q.member (Some p) (key q) q.member ≡ Some (progress x)) × (v.seats (key q) q.member ≡ Some i)) (same_Some (advanced q p) r e) (refl, in_at paths (key q) q.member (Some p), seat);
-      owner = λ j e. subst (λ j. Owned (put v.request i (Some (advanced q p))) (key q) q.member j) (same_Some i j (sym seat ∙ e)) (record { req = advanced q p; is = put_same v.request i (Some (advanced q p)); active = t; key_is = refl; member_is = refl });
-      on_way = λ _ _ n. none-some i (sym n ∙ seat);
-      contributions = λ l m h. inl h;
-      gave = λ r e s h. subst (λ (x : Live). s < x.starts) (same_Some (advanced q p) r e) (b.gave i q here s h);
-      tracks = retracked v paths b.tracks (key q) v.given mail (put_in paths (key q) q.member (Some p))
-          (λ l d. record { given = λ r. refl; progress = λ r. ap (λ (f : ℕ → Option Progress). f r) (off_key paths (key q) (put (paths (key q)) q.member (Some p)) l d); mail = λ x r j. ap (λ (f : Mail). f x r j) (others l d) })
-          (record { given = v.given (key q); progress = put (paths (key q)) q.member (Some p); mail = mail (key q) }) tr
-          (record { given = λ r. refl; progress = λ r. ap (λ (f : ℕ → Option Progress). f r) (at_key paths (key q) (put (paths (key q)) q.member (Some p)) (key q) refl); mail = λ x r j. refl });
-    }) home
+    base_acts p mail home tr others =
+        base_changes v paths b i q (key q) (Some (advanced q p)) v.given v.seats mail (put_in paths (key q) q.member (Some p)) (record {
+          here = here;
+          comm_is = refl;
+          place_is = refl;
+          was = λ _. refl;
+          kin = λ r e. subst (λ (x : Live). Kin x q) (same_Some (advanced q p) r e)
+              (record { comm = refl; members = refl; member = refl; place = refl; sig = refl });
+          elsewhere = λ l m d. (refl, in_off paths (key q) q.member (Some p) l m d);
+          active = λ r e _. subst
+              (λ (x : Live). (key x ≡ key q) × (put_in paths (key q) q.member (Some p) (key q) q.member ≡ Some (progress x))
+              × (v.seats (key q) q.member ≡ Some i))
+              (same_Some (advanced q p) r e) (refl, in_at paths (key q) q.member (Some p), seat);
+          owner = λ j e. subst (λ j. Owned (put v.request i (Some (advanced q p))) (key q) q.member j) (same_Some i j (sym seat ∙ e))
+              (record { req = advanced q p; is = put_same v.request i (Some (advanced q p)); active = t; key_is = refl; member_is = refl });
+          on_way = λ _ _ n. none-some i (sym n ∙ seat);
+          contributions = λ l m h. inl h;
+          gave = λ r e s h. subst (λ (x : Live). s < x.starts) (same_Some (advanced q p) r e) (b.gave i q here s h);
+          tracks = retracked v paths b.tracks (key q) v.given mail (put_in paths (key q) q.member (Some p))
+              (λ l d. record {
+                given = λ r. refl;
+                progress =
+                    λ r. ap (λ (f : ℕ → Option Progress). f r) (off_key paths (key q) (put (paths (key q)) q.member (Some p)) l d);
+                mail =
+                    λ x r j. ap (λ (f : Mail). f x r j) (others l d);
+              })
+              (record { given = v.given (key q); progress = put (paths (key q)) q.member (Some p); mail = mail (key q) }) tr
+              (record {
+                given = λ r. refl;
+                progress =
+                    λ r. ap (λ (f : ℕ → Option Progress). f r) (at_key paths (key q) (put (paths (key q)) q.member (Some p)) (key q) refl);
+                mail = λ x r j. refl;
+              });
+        }) home
       where
         seat : v.seats (key q) q.member ≡ Some i
         seat = (b.active i q here t).1
@@ -80,25 +101,38 @@ module _ (v : Tables) (paths : Paths) (b : Base v paths) (i : ℕ) (q : Live) (h
     resting Persistent r e = same_Some (at_rest q) r e
 
     -- its member leaves the instance
-    pub base_leaves : (home : ℕ → ℕ) → q.round ≡ length (family q.sig (size v.setting q.comm) q.member).rounds → Base (leaving v i q home) (put_in paths (key q) q.member None)
-    base_leaves home over = base_changes v paths b i q (key q) (rests q) v.given (put_in v.seats (key q) q.member None) v.mail (put_in paths (key q) q.member None) (record {
-      here = here;
-      comm_is = refl;
-      place_is = refl;
-      was = λ _. refl;
-      kin = λ r e. subst (λ (x : Live). Kin x q) (resting q.sig.mode r e) (record { comm = refl; members = refl; member = refl; place = refl; sig = refl });
-      elsewhere = λ l m d. (in_off v.seats (key q) q.member None l m d, in_off paths (key q) q.member None l m d);
-      active = λ r e a. absurd (false≢true (ap (λ (x : Live). x.active) (resting q.sig.mode r e) ∙ a));
-      owner = λ j e. absurd (none-some j (sym (in_at v.seats (key q) q.member None) ∙ e));
-      on_way = λ p e. absurd (none-some p (sym (in_at paths (key q) q.member None) ∙ e));
-      contributions = λ l m h. inl h;
-      gave = λ r e s h. subst (λ (x : Live). s < x.starts) (resting q.sig.mode r e) (b.gave i q here s h);
-      tracks = retracked v paths b.tracks (key q) v.given v.mail (put_in paths (key q) q.member None)
-          (λ l d. record { given = λ r. refl; progress = λ r. ap (λ (f : ℕ → Option Progress). f r) (off_key paths (key q) (put (paths (key q)) q.member None) l d); mail = λ x r j. refl })
-          (record { given = v.given (key q); progress = put (paths (key q)) q.member None; mail = v.mail (key q) })
-          (tracks_leave (size v.setting q.comm) (family_at v (key q)) (world v paths (key q)) q.member (progress q) (b.active i q here t).0 (over ∙ ap (λ (f : Family). length (f q.member).rounds) (sym family_own)) (b.tracks (key q)))
-          (record { given = λ r. refl; progress = λ r. ap (λ (f : ℕ → Option Progress). f r) (at_key paths (key q) (put (paths (key q)) q.member None) (key q) refl); mail = λ x r j. refl });
-    }) home
+    pub base_leaves : (home : ℕ → ℕ) → q.round ≡ length (family q.sig (size v.setting q.comm) q.member).rounds
+        → Base (leaving v i q home) (put_in paths (key q) q.member None)
+    base_leaves home over =
+        base_changes v paths b i q (key q) (rests q) v.given (put_in v.seats (key q) q.member None) v.mail (put_in paths (key q) q.member None) (record {
+          here = here;
+          comm_is = refl;
+          place_is = refl;
+          was = λ _. refl;
+          kin = λ r e. subst (λ (x : Live). Kin x q) (resting q.sig.mode r e) (record { comm = refl; members = refl; member = refl; place = refl; sig = refl });
+          elsewhere = λ l m d. (in_off v.seats (key q) q.member None l m d, in_off paths (key q) q.member None l m d);
+          active = λ r e a. absurd (false≢true (ap (λ (x : Live). x.active) (resting q.sig.mode r e) ∙ a));
+          owner = λ j e. absurd (none-some j (sym (in_at v.seats (key q) q.member None) ∙ e));
+          on_way = λ p e. absurd (none-some p (sym (in_at paths (key q) q.member None) ∙ e));
+          contributions = λ l m h. inl h;
+          gave = λ r e s h. subst (λ (x : Live). s < x.starts) (resting q.sig.mode r e) (b.gave i q here s h);
+          tracks = retracked v paths b.tracks (key q) v.given v.mail (put_in paths (key q) q.member None)
+              (λ l d. record {
+                given = λ r. refl;
+                progress =
+                    λ r. ap (λ (f : ℕ → Option Progress). f r) (off_key paths (key q) (put (paths (key q)) q.member None) l d);
+                mail = λ x r j. refl;
+              })
+              (record { given = v.given (key q); progress = put (paths (key q)) q.member None; mail = v.mail (key q) })
+              (tracks_leave (size v.setting q.comm) (family_at v (key q)) (world v paths (key q)) q.member (progress q)
+              (b.active i q here t).0 (over ∙ ap (λ (f : Family). length (f q.member).rounds) (sym family_own)) (b.tracks (key q)))
+              (record {
+                given = λ r. refl;
+                progress =
+                    λ r. ap (λ (f : ℕ → Option Progress). f r) (at_key paths (key q) (put (paths (key q)) q.member None) (key q) refl);
+                mail = λ x r j. refl;
+              });
+        }) home
 
   -- an inactive one goes
   pub base_frees : (home : ℕ → ℕ) → q.active ≡ false → Base (freeing v i home) paths
@@ -131,29 +165,46 @@ module _ (v : Tables) (paths : Paths) (b : Base v paths) (i : ℕ) (q : Live) (b
   k = at q q.starts
 
   pub base_joins : (home : ℕ → ℕ) → Base (joining v i q bytes p home) (put_in paths k q.member (Some p))
-  base_joins home = base_changes v paths b i q k (Some (begun q p)) (put_in v.given k q.member (Some bytes)) (put_in v.seats k q.member (Some i)) v.mail (put_in paths k q.member (Some p)) (record {
-    here = h.here;
-    comm_is = refl;
-    place_is = refl;
-    was = λ a. absurd (false≢true (sym h.inactive ∙ a));
-    kin = λ r e. subst (λ (x : Live). Kin x q) (same_Some (begun q p) r e) (record { comm = refl; members = refl; member = refl; place = refl; sig = refl });
-    elsewhere = λ l m d. (in_off v.seats k q.member (Some i) l m d, in_off paths k q.member (Some p) l m d);
-    active = λ r e _. subst (λ (x : Live). (key x ≡ k) × (put_in paths k q.member (Some p) k q.member ≡ Some (progress x)) × (put_in v.seats k q.member (Some i) k q.member ≡ Some i)) (same_Some (begun q p) r e) (refl, in_at paths k q.member (Some p), in_at v.seats k q.member (Some i));
-    owner = λ j e. subst (λ j. Owned (put v.request i (Some (begun q p))) k q.member j) (same_Some i j (sym (in_at v.seats k q.member (Some i)) ∙ e)) (record { req = begun q p; is = put_same v.request i (Some (begun q p)); active = refl; key_is = refl; member_is = refl });
-    on_way = λ _ _ n. none-some i (sym n ∙ in_at v.seats k q.member (Some i));
-    contributions = λ l m x. contributions l m x (in_cases v.given k q.member (Some bytes) l m);
-    gave = λ r e s x. subst (λ (y : Live). s < y.starts) (same_Some (begun q p) r e) (gives s x (in_cases v.given k q.member (Some bytes) (at q s) q.member));
-    tracks = retracked v paths b.tracks k (put_in v.given k q.member (Some bytes)) v.mail (put_in paths k q.member (Some p))
-        (λ l d. record { given = λ r. ap (λ (f : ℕ → Option (List ℕ)). f r) (off_key v.given k (put (v.given k) q.member (Some bytes)) l d); progress = λ r. ap (λ (f : ℕ → Option Progress). f r) (off_key paths k (put (paths k) q.member (Some p)) l d); mail = λ x r j. refl })
-        (joined f (world v paths k) q.member bytes)
-        (subst (λ (g : Family). Tracks n g (joined f (world v paths k) q.member bytes)) (sym (family_own v paths b i q h.here))
-        (tracks_join n f (world v paths k) q.member bytes low (not_given v paths b i q h.here) (h.long ∙ sym ((serves_own v paths b i q h.here).takes_given q.member low)) h.are (tracks_at v paths b i q h.here q.starts)))
-        (record {
-          given = λ r. ap (λ (f : ℕ → Option (List ℕ)). f r) (at_key v.given k (put (v.given k) q.member (Some bytes)) k refl);
-          progress = λ r. ap (λ (f : ℕ → Option Progress). f r) (at_key paths k (put (paths k) q.member (Some p)) k refl) ∙ ap (λ (x : Progress). put (paths k) q.member (Some x) r) h.start;
-          mail = λ x r j. refl;
-        });
-  }) home
+  base_joins home =
+      base_changes v paths b i q k (Some (begun q p)) (put_in v.given k q.member (Some bytes))
+      (put_in v.seats k q.member (Some i)) v.mail (put_in paths k q.member (Some p)) (record {
+        here = h.here;
+        comm_is = refl;
+        place_is = refl;
+        was = λ a. absurd (false≢true (sym h.inactive ∙ a));
+        kin = λ r e. subst (λ (x : Live). Kin x q) (same_Some (begun q p) r e)
+            (record { comm = refl; members = refl; member = refl; place = refl; sig = refl });
+        elsewhere = λ l m d. (in_off v.seats k q.member (Some i) l m d, in_off paths k q.member (Some p) l m d);
+        active = λ r e _. subst
+            (λ (x : Live). (key x ≡ k) × (put_in paths k q.member (Some p) k q.member ≡ Some (progress x))
+            × (put_in v.seats k q.member (Some i) k q.member ≡ Some i)) (same_Some (begun q p) r e)
+            (refl, in_at paths k q.member (Some p), in_at v.seats k q.member (Some i));
+        owner = λ j e. subst (λ j. Owned (put v.request i (Some (begun q p))) k q.member j)
+            (same_Some i j (sym (in_at v.seats k q.member (Some i)) ∙ e))
+            (record { req = begun q p; is = put_same v.request i (Some (begun q p)); active = refl; key_is = refl; member_is = refl });
+        on_way = λ _ _ n. none-some i (sym n ∙ in_at v.seats k q.member (Some i));
+        contributions = λ l m x. contributions l m x (in_cases v.given k q.member (Some bytes) l m);
+        gave = λ r e s x. subst (λ (y : Live). s < y.starts) (same_Some (begun q p) r e)
+            (gives s x (in_cases v.given k q.member (Some bytes) (at q s) q.member));
+        tracks = retracked v paths b.tracks k (put_in v.given k q.member (Some bytes)) v.mail (put_in paths k q.member (Some p))
+            (λ l d. record {
+              given = λ r. ap (λ (f : ℕ → Option (List ℕ)). f r)
+                  (off_key v.given k (put (v.given k) q.member (Some bytes)) l d);
+              progress =
+                  λ r. ap (λ (f : ℕ → Option Progress). f r) (off_key paths k (put (paths k) q.member (Some p)) l d);
+              mail = λ x r j. refl;
+            })
+            (joined f (world v paths k) q.member bytes)
+            (subst (λ (g : Family). Tracks n g (joined f (world v paths k) q.member bytes)) (sym (family_own v paths b i q h.here))
+            (tracks_join n f (world v paths k) q.member bytes low (not_given v paths b i q h.here)
+            (h.long ∙ sym ((serves_own v paths b i q h.here).takes_given q.member low)) h.are (tracks_at v paths b i q h.here q.starts)))
+            (record {
+              given = λ r. ap (λ (f : ℕ → Option (List ℕ)). f r) (at_key v.given k (put (v.given k) q.member (Some bytes)) k refl);
+              progress = λ r. ap (λ (f : ℕ → Option Progress). f r) (at_key paths k (put (paths k) q.member (Some p)) k refl)
+                  ∙ ap (λ (x : Progress). put (paths k) q.member (Some x) r) h.start;
+              mail = λ x r j. refl;
+            });
+      }) home
     where
       n : ℕ
       n = size v.setting q.comm
@@ -164,11 +215,16 @@ module _ (v : Tables) (paths : Paths) (b : Base v paths) (i : ℕ) (q : Live) (b
       low : q.member < size v.setting q.comm
       low = b.member_in i q h.here
 
-      contributions : (l : Key) (m : ℕ) → put_in v.given k q.member (Some bytes) l m ≢ None → ((l ≡ k) × (m ≡ q.member) × (put_in v.given k q.member (Some bytes) l m ≡ Some bytes)) ⊎ (((l ≡ k) → (m ≡ q.member) → ⊥) × (put_in v.given k q.member (Some bytes) l m ≡ v.given l m)) → (v.given l m ≢ None) ⊎ ((l ≡ k) × (m ≡ q.member))
+      contributions : (l : Key) (m : ℕ) → put_in v.given k q.member (Some bytes) l m ≢ None
+          → ((l ≡ k) × (m ≡ q.member) × (put_in v.given k q.member (Some bytes) l m ≡ Some bytes))
+          ⊎ (((l ≡ k) → (m ≡ q.member) → ⊥) × (put_in v.given k q.member (Some bytes) l m ≡ v.given l m)) → (v.given l m ≢ None) ⊎ ((l ≡ k) × (m ≡ q.member))
       contributions l m x (inl y) = inr (y.0, y.1)
       contributions l m x (inr y) = inl (λ z. x (y.1 ∙ z))
 
-      gives : (s : ℕ) → put_in v.given k q.member (Some bytes) (at q s) q.member ≢ None → ((at q s ≡ k) × (q.member ≡ q.member) × (put_in v.given k q.member (Some bytes) (at q s) q.member ≡ Some bytes)) ⊎ (((at q s ≡ k) → (q.member ≡ q.member) → ⊥) × (put_in v.given k q.member (Some bytes) (at q s) q.member ≡ v.given (at q s) q.member)) → s < suc q.starts
+      gives : (s : ℕ) → put_in v.given k q.member (Some bytes) (at q s) q.member ≢ None
+          → ((at q s ≡ k) × (q.member ≡ q.member) × (put_in v.given k q.member (Some bytes) (at q s) q.member ≡ Some bytes))
+          ⊎ (((at q s ≡ k) → (q.member ≡ q.member) → ⊥) × (put_in v.given k q.member (Some bytes) (at q s) q.member ≡ v.given (at q s) q.member))
+          → s < suc q.starts
       gives s x (inl y) = let e : s ≡ q.starts = ap (λ (l : Key). l.start) y.0 in omega arith
       gives s x (inr y) = let e : s < q.starts = b.gave i q h.here s (λ z. x (y.1 ∙ z)) in omega arith
 
@@ -183,9 +239,19 @@ nobody v paths b k last m = go (paths k m) refl
 pub base_dissolves : (v : Tables) (paths : Paths) → Base v paths → (k : Key) → IsLast v k → Base (dissolving v k) paths
 base_dissolves v paths b k last = record {
   tracks = retracked v paths b.tracks k contributions messages paths
-      (λ l d. record { given = λ r. ap (λ (f : ℕ → Option (List ℕ)). f r) (off_key v.given k (λ m. None) l d); progress = λ r. refl; mail = λ x r j. ap (λ (f : Mail). f x r j) (off_key v.mail k (λ x y z. None) l d) })
+      (λ l d. record {
+        given = λ r. ap (λ (f : ℕ → Option (List ℕ)). f r) (off_key v.given k (λ m. None) l d);
+        progress =
+            λ r. refl;
+        mail = λ x r j. ap (λ (f : Mail). f x r j) (off_key v.mail k (λ x y z. None) l d);
+      })
       empty (tracks_empty (size v.setting k.comm) (family_at v k))
-      (record { given = λ r. ap (λ (f : ℕ → Option (List ℕ)). f r) (at_key v.given k (λ m. None) k refl); progress = nobody v paths b k last; mail = λ x r j. ap (λ (f : Mail). f x r j) (at_key v.mail k (λ x y z. None) k refl) });
+      (record {
+        given = λ r. ap (λ (f : ℕ → Option (List ℕ)). f r) (at_key v.given k (λ m. None) k refl);
+        progress =
+            nobody v paths b k last;
+        mail = λ x r j. ap (λ (f : Mail). f x r j) (at_key v.mail k (λ x y z. None) k refl);
+      });
   active = b.active;
   owner = b.owner;
   on_way = b.on_way;
@@ -212,4 +278,20 @@ base_dissolves v paths b k last = record {
 
 -- lists aside, the condition stays
 pub base_rehomes : (v : Tables) (paths : Paths) (home : ℕ → ℕ) → Base v paths → Base (rehoming v home) paths
-base_rehomes v paths home b = record { tracks = b.tracks; active = b.active; owner = b.owner; on_way = b.on_way; alone = b.alone; sized = b.sized; member_in = b.member_in; own = b.own; agreed = b.agreed; signs = b.signs; planned = b.planned; posted = b.posted; gave = b.gave }
+base_rehomes v paths home b =
+    record {
+      tracks = b.tracks;
+      active = b.active;
+      owner = b.owner;
+      on_way = b.on_way;
+      alone = b.alone;
+      sized =
+          b.sized;
+      member_in = b.member_in;
+      own = b.own;
+      agreed = b.agreed;
+      signs = b.signs;
+      planned = b.planned;
+      posted = b.posted;
+      gave = b.gave;
+    }

@@ -9,7 +9,8 @@ use Rattle.coll_sched.specs.Common.{IsLocal, wrote, laid_in, written, Progress}
 use Rattle.coll_plans.specs.Plans.{family, most_actions}
 use Rattle.coll_arena.specs.declared.list_name.ListName.TheVariants.{Free as FreeList, Ready, Idle, Done}
 use Rattle.coll_arena.specs.ListNames.{number_of}
-use Rattle.coll_machine.specs.Common.{Setting, size, Planned, Post, Init, Start, Retire, Free, Ticketed, Outcome, Nothing, refusal, MachineStep, MayFinish, StepsTo}
+use Rattle.coll_machine.specs.Common.{Setting, size, Planned, Post, Init, Start, Retire, Free, Ticketed, Outcome, Nothing, refusal, MachineStep}
+use Rattle.coll_machine.specs.Common.{MayFinish, StepsTo}
 use Rattle.coll_machine.specs.declared.key.Key.{Key}
 use Rattle.coll_refinement.specs.Requests.{Live, before, key, advanced}
 use Rattle.coll_refinement.specs.Tables.{Mail, Tables, machine, opened, state}

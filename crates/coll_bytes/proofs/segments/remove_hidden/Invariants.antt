@@ -7,7 +7,8 @@ abbrev pub invariant-loop-i : goal.invariant-loop-i
 invariant-loop-i l = record {
   below : l.i ≤ length l.segments.items;
   all : AllInside l.size l.segments.items;
-  hidden : (bytes : List ℕ) → length bytes ≡ l.region.len → written (laid l.size l.segments.items) l.region bytes ≡ written (laid l.size l.fn.segments.items) l.region bytes;
+  hidden : (bytes : List ℕ) → length bytes ≡ l.region.len
+      → written (laid l.size l.segments.items) l.region bytes ≡ written (laid l.size l.fn.segments.items) l.region bytes;
   fewer : length l.segments.items ≤ length l.fn.segments.items;
   capacity : l.segments.capacity ≡ l.fn.segments.capacity;
 }

@@ -13,12 +13,14 @@ returns-then-not-is_ascii_digit c =
 
 pub overflow_mul-number : goal.overflow_mul-number
 overflow_mul-number c =
-    let small : digits_value 10 (take c.loop-digit.digit-index c.args.word.now) < 10 ^ 20 = digits_value-take_fits c.args.word.now c.loop-digit.digit-index (omega arith) (omega arith) c.loop-digit.invariant.digits in
+    let small : digits_value 10 (take c.loop-digit.digit-index c.args.word.now) < 10 ^ 20 =
+    digits_value-take_fits c.args.word.now c.loop-digit.digit-index (omega arith) (omega arith) c.loop-digit.invariant.digits in
     omega (arith, small, c.loop-digit.invariant.value)
 
 pub overflow_add-number : goal.overflow_add-number
 overflow_add-number c =
-    let small : digits_value 10 (take c.loop-digit.digit-index c.args.word.now) < 10 ^ 20 = digits_value-take_fits c.args.word.now c.loop-digit.digit-index (omega arith) (omega arith) c.loop-digit.invariant.digits in
+    let small : digits_value 10 (take c.loop-digit.digit-index c.args.word.now) < 10 ^ 20 =
+    digits_value-take_fits c.args.word.now c.loop-digit.digit-index (omega arith) (omega arith) c.loop-digit.invariant.digits in
     omega (arith, small, c.loop-digit.invariant.value)
 
 pub loop-digit-preserved : goal.loop-digit-preserved

@@ -13,7 +13,8 @@ returns-in-Sum-clause-value c =
 pub returns-in-Prod-clause-value : goal.returns-in-Prod-clause-value
 returns-in-Prod-clause-value c =
     rw (c.mask-in-Prod.ensures, c.in-Prod.is)
-    (bit_and-mask _ (c.args.a * c.args.b) (HasBits-word c.args.ty).most ∙ sym (cast_unsigned-product c.args.ty c.args.a c.args.b c.requires.left c.requires.right))
+    (bit_and-mask _ (c.args.a * c.args.b) (HasBits-word c.args.ty).most
+    ∙ sym (cast_unsigned-product c.args.ty c.args.a c.args.b c.requires.left c.requires.right))
 
 pub returns-in-Band-clause-value : goal.returns-in-Band-clause-value
 returns-in-Band-clause-value c = rw c.in-Band.is (sym (bitwise-bits bit_and bit_and-lt c.args.ty c.args.a c.args.b c.requires.left c.requires.right))

@@ -10,14 +10,16 @@ returns-in_err-rounds-clause-family c = allgather_serves c.args.sig c.args.n c.r
 pub of_lawful_rounds-requires : goal.of_lawful_rounds-requires
 of_lawful_rounds-requires c =
     subst IsSchedule
-    (sym (allgather_parts c.args.sig c.args.n c.args.r c.block_bytes-len.result c.all_bytes-half.result c.front.result c.blocks-output.result c.in_ok-rounds.rounds.items
+    (sym (allgather_parts c.args.sig c.args.n c.args.r c.block_bytes-len.result c.all_bytes-half.result c.front.result
+    c.blocks-output.result c.in_ok-rounds.rounds.items
     c.block_bytes-len.ensures.length c.all_bytes-half.ensures.length c.front.ensures c.blocks-output.ensures c.in_ok-rounds.ensures.ok))
     ((allgather_serves c.args.sig c.args.n c.requires.kind c.requires.few).serves.lawful.schedules c.args.r c.requires.member)
 
 pub returns-clause-schedule : goal.returns-clause-schedule
 returns-clause-schedule c =
     c.of_lawful_rounds.ensures
-    ∙ allgather_parts c.args.sig c.args.n c.args.r c.block_bytes-len.result c.all_bytes-half.result c.front.result c.blocks-output.result c.in_ok-rounds.rounds.items
+    ∙ allgather_parts c.args.sig c.args.n c.args.r c.block_bytes-len.result c.all_bytes-half.result c.front.result
+    c.blocks-output.result c.in_ok-rounds.rounds.items
     c.block_bytes-len.ensures.length c.all_bytes-half.ensures.length c.front.ensures c.blocks-output.ensures c.in_ok-rounds.ensures.ok
 
 pub returns-clause-family : goal.returns-clause-family

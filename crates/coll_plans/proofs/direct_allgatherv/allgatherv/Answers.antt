@@ -9,10 +9,17 @@ use Rattle.coll_plans.proofs.DirectRowRegions.{row_within}
 use Rattle.coll_plans.proofs.direct_allgatherv.allgatherv.Goals as goal
 
 pub overflow_cast-all : goal.overflow_cast-all
-overflow_cast-all c = omega (arith, rows_small c.args.sig c.args.n c.requires.kind c.requires.checked (omega (arith, c.requires.member)), c.rows_len-all.ensures.len)
+overflow_cast-all c =
+    omega (arith, rows_small c.args.sig c.args.n c.requires.kind c.requires.checked (omega (arith, c.requires.member)), c.rows_len-all.ensures.len)
 
 pub overflow_cast-own : goal.overflow_cast-own
-overflow_cast-own c = omega (arith, rows_small c.args.sig c.args.n c.requires.kind c.requires.checked (omega (arith, c.requires.member)), row_within (row_len c.args.sig) c.args.r c.args.n c.requires.member, c.row_len.ensures.len)
+overflow_cast-own c =
+    omega (
+      arith,
+      rows_small c.args.sig c.args.n c.requires.kind c.requires.checked (omega (arith, c.requires.member)),
+      row_within (row_len c.args.sig) c.args.r c.args.n c.requires.member,
+      c.row_len.ensures.len,
+    )
 
 pub row_exchange-requires-clause-small : goal.row_exchange-requires-clause-small
 row_exchange-requires-clause-small c = rows_small c.args.sig c.args.n c.requires.kind c.requires.checked (omega (arith, c.requires.member))
@@ -35,9 +42,18 @@ overflow_add-all c =
 
 pub of_lawful_rounds-requires : goal.of_lawful_rounds-requires
 of_lawful_rounds-requires c =
-    let rounds : c.in_ok-rounds.rounds.items ≡ (allgatherv_family c.args.sig c.args.n c.args.r).rounds = c.in_ok-rounds.ensures.ok ∙ ap (λ (x : List Action). x ∷ []) c.in_ok-round.ensures.ok in
+    let rounds : c.in_ok-rounds.rounds.items ≡ (allgatherv_family c.args.sig c.args.n c.args.r).rounds =
+    c.in_ok-rounds.ensures.ok ∙ ap (λ (x : List Action). x ∷ []) c.in_ok-round.ensures.ok in
     let output : c.front.result ≡ front (total (row_len c.args.sig) c.args.n) = c.front.ensures ∙ ap front c.rows_len-all.ensures.len in
-    let parts : ◌≡◌ {A = Parts} (record { size = c.rows_len-all.result + c.row_len.result; input = record { at = c.rows_len-all.result; len = c.row_len.result }; output = c.front.result; rounds = c.in_ok-rounds.rounds.items }) (allgatherv_family c.args.sig c.args.n c.args.r) =
+    let parts : ◌≡◌ {A = Parts}
+    (record {
+      size = c.rows_len-all.result + c.row_len.result;
+      input =
+          record { at = c.rows_len-all.result; len = c.row_len.result };
+      output = c.front.result;
+      rounds = c.in_ok-rounds.rounds.items;
+    })
+    (allgatherv_family c.args.sig c.args.n c.args.r) =
     λ k. record {
       size = c.rows_len-all.ensures.len k + c.row_len.ensures.len k;
       input = record { at = c.rows_len-all.ensures.len k; len = c.row_len.ensures.len k };

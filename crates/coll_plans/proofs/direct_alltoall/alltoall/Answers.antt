@@ -14,11 +14,25 @@ of_lawful_rounds-requires c =
     c.in_ok-rounds.ensures.ok
     ∙ (ap (λ (x : List Action). x ∷ []) c.in_ok-round.ensures.ok
     ∙ ((λ k. exchange ToAll (c.each.ensures k) (c.each-2.ensures k) c.args.n c.args.r ∷ [])
-    ∙ ap (λ half. exchange ToAll (blocks_from 0 c.block_bytes-len.result) (blocks_from half c.block_bytes-len.result) c.args.n c.args.r ∷ []) c.all_bytes-half.ensures.length)) in
+    ∙ ap (λ half. exchange ToAll (blocks_from 0 c.block_bytes-len.result) (blocks_from half c.block_bytes-len.result) c.args.n c.args.r ∷ [])
+    c.all_bytes-half.ensures.length)) in
     let output : c.all_blocks-output.result ≡ all_blocks (c.args.n * c.block_bytes-len.result) c.args.n c.block_bytes-len.result =
     c.all_blocks-output.ensures ∙ ap (λ half. all_blocks half c.args.n c.block_bytes-len.result) c.all_bytes-half.ensures.length in
-    let parts : ◌≡◌ {A = Parts} (record { size = c.all_bytes-half.result + c.all_bytes-half.result; input = c.all_blocks-input.result; output = c.all_blocks-output.result; rounds = c.in_ok-rounds.rounds.items }) (alltoall_by c.args.n c.block_bytes-len.result c.args.r) =
-    λ k. record { size = c.all_bytes-half.ensures.length k + c.all_bytes-half.ensures.length k; input = c.all_blocks-input.ensures k; output = output k; rounds = rounds k } in
+    let parts : ◌≡◌ {A = Parts}
+    (record {
+      size = c.all_bytes-half.result + c.all_bytes-half.result;
+      input = c.all_blocks-input.result;
+      output =
+          c.all_blocks-output.result;
+      rounds = c.in_ok-rounds.rounds.items;
+    }) (alltoall_by c.args.n c.block_bytes-len.result c.args.r) =
+    λ k. record {
+      size = c.all_bytes-half.ensures.length k + c.all_bytes-half.ensures.length k;
+      input =
+          c.all_blocks-input.ensures k;
+      output = output k;
+      rounds = rounds k;
+    } in
     subst IsSchedule (sym (parts ∙ ap (λ b. alltoall_by c.args.n b c.args.r) c.block_bytes-len.ensures.length))
     ((alltoall_serves c.args.sig c.args.n c.requires.kind).serves.lawful.schedules c.args.r c.requires.member)
 

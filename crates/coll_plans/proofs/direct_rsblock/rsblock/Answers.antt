@@ -12,19 +12,27 @@ use Rattle.coll_plans.proofs.direct_rsblock.rsblock.Goals as goal
 pub of_lawful_rounds-requires : goal.of_lawful_rounds-requires
 of_lawful_rounds-requires c =
     subst IsSchedule
-    (sym (rsblock_parts c.args.sig c.args.n c.args.r c.block_bytes-len.result c.all_bytes-half.result c.in-Some.op c.all_blocks-input.result c.push_combines.new.rounds.items c.block_bytes-len.ensures.length c.all_bytes-half.ensures.length c.in-Some.is c.all_blocks-input.ensures
+    (sym (rsblock_parts c.args.sig c.args.n c.args.r c.block_bytes-len.result c.all_bytes-half.result c.in-Some.op
+    c.all_blocks-input.result c.push_combines.new.rounds.items c.block_bytes-len.ensures.length
+    c.all_bytes-half.ensures.length c.in-Some.is c.all_blocks-input.ensures
     (c.in_ok-push_combines.ensures.ok
-    ∙ (ap (λ xs. xs ++ rounds_of (combines_below c.in-Some.op c.args.sig.ty c.each-got.result (c.args.n - 1)) 0) (c.in_ok-rounds.ensures.ok ∙ ap (λ (x : List Action). x ∷ []) c.in_ok-round.ensures.ok)
-    ∙ (λ k. exchange ToAll (c.each.ensures k) (c.each-got.ensures k) c.args.n c.args.r ∷ rounds_of (combines_below c.in-Some.op c.args.sig.ty (c.each-got.ensures k) (c.args.n - 1)) 0)))))
+    ∙ (ap (λ xs. xs ++ rounds_of (combines_below c.in-Some.op c.args.sig.ty c.each-got.result (c.args.n - 1)) 0)
+    (c.in_ok-rounds.ensures.ok ∙ ap (λ (x : List Action). x ∷ []) c.in_ok-round.ensures.ok)
+    ∙ (λ k. exchange ToAll (c.each.ensures k) (c.each-got.ensures k) c.args.n c.args.r
+    ∷ rounds_of (combines_below c.in-Some.op c.args.sig.ty (c.each-got.ensures k) (c.args.n - 1)) 0)))))
     ((rsblock_serves c.args.sig c.args.n c.requires.checked c.requires.kind).serves.lawful.schedules c.args.r c.requires.member)
 
 pub returns-clause-schedule : goal.returns-clause-schedule
 returns-clause-schedule c =
     c.of_lawful_rounds.ensures
-    ∙ rsblock_parts c.args.sig c.args.n c.args.r c.block_bytes-len.result c.all_bytes-half.result c.in-Some.op c.all_blocks-input.result c.push_combines.new.rounds.items c.block_bytes-len.ensures.length c.all_bytes-half.ensures.length c.in-Some.is c.all_blocks-input.ensures
+    ∙ rsblock_parts c.args.sig c.args.n c.args.r c.block_bytes-len.result c.all_bytes-half.result c.in-Some.op
+    c.all_blocks-input.result c.push_combines.new.rounds.items c.block_bytes-len.ensures.length
+    c.all_bytes-half.ensures.length c.in-Some.is c.all_blocks-input.ensures
     (c.in_ok-push_combines.ensures.ok
-    ∙ (ap (λ xs. xs ++ rounds_of (combines_below c.in-Some.op c.args.sig.ty c.each-got.result (c.args.n - 1)) 0) (c.in_ok-rounds.ensures.ok ∙ ap (λ (x : List Action). x ∷ []) c.in_ok-round.ensures.ok)
-    ∙ (λ k. exchange ToAll (c.each.ensures k) (c.each-got.ensures k) c.args.n c.args.r ∷ rounds_of (combines_below c.in-Some.op c.args.sig.ty (c.each-got.ensures k) (c.args.n - 1)) 0)))
+    ∙ (ap (λ xs. xs ++ rounds_of (combines_below c.in-Some.op c.args.sig.ty c.each-got.result (c.args.n - 1)) 0)
+    (c.in_ok-rounds.ensures.ok ∙ ap (λ (x : List Action). x ∷ []) c.in_ok-round.ensures.ok)
+    ∙ (λ k. exchange ToAll (c.each.ensures k) (c.each-got.ensures k) c.args.n c.args.r
+    ∷ rounds_of (combines_below c.in-Some.op c.args.sig.ty (c.each-got.ensures k) (c.args.n - 1)) 0)))
 
 pub returns-in_err-round-clause-family : goal.returns-in_err-round-clause-family
 returns-in_err-round-clause-family c = rsblock_serves c.args.sig c.args.n c.requires.checked c.requires.kind

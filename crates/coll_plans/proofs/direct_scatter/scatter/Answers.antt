@@ -12,9 +12,24 @@ pub of_lawful_rounds-requires : goal.of_lawful_rounds-requires
 of_lawful_rounds-requires c =
     let rounds : c.in_ok-rounds.rounds.items ≡ (scatter_by c.args.sig.root c.args.n c.block_bytes-len.result c.args.r).rounds =
     c.in_ok-rounds.ensures.ok
-    ∙ (ap (λ (x : List Action). x ∷ []) c.in_ok-round.ensures.ok ∙ (λ k. exchange (FromRoot c.args.sig.root) (c.each.ensures k) (c.one.ensures k) c.args.n c.args.r ∷ [])) in
-    let parts : ◌≡◌ {A = Parts} (record { size = c.size_at-size.result; input = c.blocks_if-input.result; output = record { at = 0; len = c.block_bytes-len.result }; rounds = c.in_ok-rounds.rounds.items }) (scatter_by c.args.sig.root c.args.n c.block_bytes-len.result c.args.r) =
-    λ k. record { size = c.size_at-size.ensures k; input = c.blocks_if-input.ensures k; output = record { at = 0; len = c.block_bytes-len.result }; rounds = rounds k } in
+    ∙ (ap (λ (x : List Action). x ∷ []) c.in_ok-round.ensures.ok
+    ∙ (λ k. exchange (FromRoot c.args.sig.root) (c.each.ensures k) (c.one.ensures k) c.args.n c.args.r ∷ [])) in
+    let parts : ◌≡◌ {A = Parts}
+    (record {
+      size = c.size_at-size.result;
+      input = c.blocks_if-input.result;
+      output =
+          record { at = 0; len = c.block_bytes-len.result };
+      rounds = c.in_ok-rounds.rounds.items;
+    })
+    (scatter_by c.args.sig.root c.args.n c.block_bytes-len.result c.args.r) =
+    λ k. record {
+      size = c.size_at-size.ensures k;
+      input = c.blocks_if-input.ensures k;
+      output =
+          record { at = 0; len = c.block_bytes-len.result };
+      rounds = rounds k;
+    } in
     subst IsSchedule (sym (parts ∙ ap (λ b. scatter_by c.args.sig.root c.args.n b c.args.r) c.block_bytes-len.ensures.length))
     ((scatter_serves c.args.sig c.args.n c.requires.checked c.requires.kind).serves.lawful.schedules c.args.r c.requires.member)
 

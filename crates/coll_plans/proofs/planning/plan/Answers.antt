@@ -22,7 +22,8 @@ returns-in_err-schedule-clause-family c = λ checked. all_served c.args.sig c.ar
 pub returns-in_err-schedule-clause-refusal : goal.returns-in_err-schedule-clause-refusal
 returns-in_err-schedule-clause-refusal c =
     let p = err_from_is_err_and c.from_residual-in_err-schedule.result c.from_residual-in_err-schedule.ensures.1 in
-    accepted (broken c.args.sig c.args.n) c.from_residual-in_err-schedule.result (unbroken (broken c.args.sig c.args.n) c.in_ok-check.field-0 c.in_ok-check.ensures)
+    accepted (broken c.args.sig c.args.n) c.from_residual-in_err-schedule.result
+    (unbroken (broken c.args.sig c.args.n) c.in_ok-check.field-0 c.in_ok-check.ensures)
     (rw (p.1, p.2) c.in_err-schedule.ensures.refusal)
 
 pub returns-in_err-sig-clause-family : goal.returns-in_err-sig-clause-family
@@ -30,7 +31,8 @@ returns-in_err-sig-clause-family c = λ checked. all_served c.args.sig c.args.n 
 
 pub returns-in_err-sig-clause-refusal : goal.returns-in_err-sig-clause-refusal
 returns-in_err-sig-clause-refusal c =
-    accepted (broken c.args.sig c.args.n) c.from_residual-in_err-sig.result (unbroken (broken c.args.sig c.args.n) c.in_ok-check.field-0 c.in_ok-check.ensures) (search rules)
+    accepted (broken c.args.sig c.args.n) c.from_residual-in_err-sig.result
+    (unbroken (broken c.args.sig c.args.n) c.in_ok-check.field-0 c.in_ok-check.ensures) (search rules)
 
 pub invariant_of-of_shared : goal.invariant_of-of_shared
 invariant_of-of_shared c =
@@ -48,4 +50,5 @@ returns-clause-family c = λ checked. all_served c.args.sig c.args.n checked (om
 
 pub returns-clause-refusal : goal.returns-clause-refusal
 returns-clause-refusal c =
-    accepted (broken c.args.sig c.args.n) c.of_shared.result (unbroken (broken c.args.sig c.args.n) c.in_ok-check.field-0 c.in_ok-check.ensures) c.of_shared.ensures.refused
+    accepted (broken c.args.sig c.args.n) c.of_shared.result
+    (unbroken (broken c.args.sig c.args.n) c.in_ok-check.field-0 c.in_ok-check.ensures) c.of_shared.ensures.refused

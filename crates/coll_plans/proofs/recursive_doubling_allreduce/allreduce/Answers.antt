@@ -10,7 +10,8 @@ returns-in_err-rounds-clause-family c = allreduce_serves c.args.sig c.args.n c.r
 pub of_lawful_rounds-requires : goal.of_lawful_rounds-requires
 of_lawful_rounds-requires c =
     subst IsSchedule
-    (sym (allreduce_parts c.args.sig c.args.n c.args.r c.block_bytes-len.result c.new.result.extra c.new.result.dimension c.in-Some.op c.in_ok-rounds.rounds.items
+    (sym (allreduce_parts c.args.sig c.args.n c.args.r c.block_bytes-len.result c.new.result.extra c.new.result.dimension
+    c.in-Some.op c.in_ok-rounds.rounds.items
     c.block_bytes-len.ensures.length c.in-Some.is c.new.ensures.extra c.new.ensures.dimension c.in_ok-rounds.ensures.ok))
     ((allreduce_serves c.args.sig c.args.n c.requires.checked c.requires.kind (omega arith) c.requires.few).serves.lawful.schedules c.args.r c.requires.member)
 

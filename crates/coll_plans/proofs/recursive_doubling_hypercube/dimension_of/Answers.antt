@@ -7,12 +7,14 @@ use Rattle.coll_plans.proofs.recursive_doubling_hypercube.dimension_of.Goals as 
 pub returns-then-n-pow-clause-dimension : goal.returns-then-n-pow-clause-dimension
 unfolding dimension
 returns-then-n-pow-clause-dimension c =
-    let e : c.pow.result ≡ 2 ^ suc c.loop-dimension.dimension = c.pow.ensures ∙ ap (λ k. 2 ^ k) (c.from.ensures ∙ (let z : c.loop-dimension.dimension + 1 ≡ suc c.loop-dimension.dimension = omega arith in z)) in
+    let e : c.pow.result ≡ 2 ^ suc c.loop-dimension.dimension =
+    c.pow.ensures ∙ ap (λ k. 2 ^ k) (c.from.ensures ∙ (let z : c.loop-dimension.dimension + 1 ≡ suc c.loop-dimension.dimension = omega arith in z)) in
     sym (dimension_from-here c.loop-dimension.dimension c.args.n (omega arith) (omega arith)) ∙ c.loop-dimension.invariant
 
 pub loop-dimension-preserved : goal.loop-dimension-preserved
 loop-dimension-preserved c =
-    let e : c.pow.result ≡ 2 ^ suc c.loop-dimension.dimension = c.pow.ensures ∙ ap (λ k. 2 ^ k) (c.from.ensures ∙ (let z : c.loop-dimension.dimension + 1 ≡ suc c.loop-dimension.dimension = omega arith in z)) in
+    let e : c.pow.result ≡ 2 ^ suc c.loop-dimension.dimension =
+    c.pow.ensures ∙ ap (λ k. 2 ^ k) (c.from.ensures ∙ (let z : c.loop-dimension.dimension + 1 ≡ suc c.loop-dimension.dimension = omega arith in z)) in
     sym (dimension_from-next c.loop-dimension.dimension c.args.n (omega arith) (omega arith)) ∙ c.loop-dimension.invariant
 
 pub returns-clause-dimension : goal.returns-clause-dimension

@@ -14,7 +14,9 @@ of_lawful_rounds-requires c =
     (sym (allreduce_parts c.args.sig c.args.n c.args.r c.block_len-len.result c.in-Some.op c.push_rounds-2.new.rounds.items c.block_len-len.ensures c.in-Some.is
     (c.in_ok-push_rounds-2.ensures.ok
     ∙ ap (λ xs. xs ++ rounds_of (bcast_tree_rounds c.block_len-len.result c.args.n 0 0 (depth c.args.n)) c.args.r)
-    (c.in_ok-push_rounds.ensures.ok ∙ ap (λ xs. xs ++ rounds_of (reduce_tree_rounds c.in-Some.op c.args.sig.ty c.block_len-len.result c.args.n 0 (depth c.args.n)) c.args.r) c.in_ok-rounds.ensures.items))))
+    (c.in_ok-push_rounds.ensures.ok
+    ∙ ap (λ xs. xs ++ rounds_of (reduce_tree_rounds c.in-Some.op c.args.sig.ty c.block_len-len.result c.args.n 0 (depth c.args.n)) c.args.r)
+    c.in_ok-rounds.ensures.items))))
     ((allreduce_serves c.args.sig c.args.n c.requires.checked c.requires.kind (omega arith) c.requires.few).serves.lawful.schedules c.args.r c.requires.member)
 
 pub returns-clause-schedule : goal.returns-clause-schedule
@@ -23,7 +25,9 @@ returns-clause-schedule c =
     ∙ allreduce_parts c.args.sig c.args.n c.args.r c.block_len-len.result c.in-Some.op c.push_rounds-2.new.rounds.items c.block_len-len.ensures c.in-Some.is
     (c.in_ok-push_rounds-2.ensures.ok
     ∙ ap (λ xs. xs ++ rounds_of (bcast_tree_rounds c.block_len-len.result c.args.n 0 0 (depth c.args.n)) c.args.r)
-    (c.in_ok-push_rounds.ensures.ok ∙ ap (λ xs. xs ++ rounds_of (reduce_tree_rounds c.in-Some.op c.args.sig.ty c.block_len-len.result c.args.n 0 (depth c.args.n)) c.args.r) c.in_ok-rounds.ensures.items))
+    (c.in_ok-push_rounds.ensures.ok
+    ∙ ap (λ xs. xs ++ rounds_of (reduce_tree_rounds c.in-Some.op c.args.sig.ty c.block_len-len.result c.args.n 0 (depth c.args.n)) c.args.r)
+    c.in_ok-rounds.ensures.items))
 
 pub returns-in_err-push_rounds-clause-family : goal.returns-in_err-push_rounds-clause-family
 returns-in_err-push_rounds-clause-family c = allreduce_serves c.args.sig c.args.n c.requires.checked c.requires.kind (omega arith) c.requires.few

@@ -7,8 +7,14 @@ use Rattle.coll_arena.proofs.arena.Arena.list_back.Goals as goal
 
 pub returns : goal.returns
 returns g c =
-    ap (map (ticket_of c.args.self.now)) (c.nodes_back-nodes.ensures ∙ ap reverse (sequence_seen _ c.args.self.now c.self.inside.lent c.self.view_is c.self.invariant _ _ c.requires c.number.ensures))
+    ap (map (ticket_of c.args.self.now))
+    (c.nodes_back-nodes.ensures
+    ∙ ap reverse (sequence_seen _ c.args.self.now c.self.inside.lent c.self.view_is c.self.invariant _ _ c.requires c.number.ensures))
     ∙ map-reverse (ticket_of c.args.self.now) (sequence c.args.self.now.lists (number_of c.args.list))
 
 pub invariant_of-result : goal.invariant_of-result
-invariant_of-result g c = record { in_range = slots_listed_back _ c.args.self.now c.self.inside.lent c.self.view_is c.self.invariant _ _ c.requires c.number.ensures _ c.nodes_back-nodes.ensures }
+invariant_of-result g c =
+    record {
+      in_range =
+          slots_listed_back _ c.args.self.now c.self.inside.lent c.self.view_is c.self.invariant _ _ c.requires c.number.ensures _ c.nodes_back-nodes.ensures;
+    }

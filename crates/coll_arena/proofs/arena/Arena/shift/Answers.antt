@@ -5,13 +5,28 @@ use Rattle.coll_arena.proofs.Calls.{in_links, low_named, shifts, shifts_lent, sh
 use Rattle.coll_arena.proofs.arena.Arena.shift.Goals as goal
 
 pub move_back-requires-clause-node_in : goal.move_back-requires-clause-node_in
-move_back-requires-clause-node_in g c = in_links _ c.args.self.now c.self.inside.lent c.self.view_is c.self.invariant c.args.ticket.slot (low_named _ c.args.self.now c.self.inside.lent c.self.view_is c.self.invariant c.args.ticket (sym c.is_live.ensures ∙ c.if-not-is_live.false))
+move_back-requires-clause-node_in g c =
+    in_links _ c.args.self.now c.self.inside.lent c.self.view_is c.self.invariant c.args.ticket.slot
+    (low_named _ c.args.self.now c.self.inside.lent c.self.view_is c.self.invariant c.args.ticket (sym c.is_live.ensures ∙ c.if-not-is_live.false))
 
 pub invariant_of-self : goal.invariant_of-self
-invariant_of-self g c = (shifts _ c.args.self.now c.self.inside.lent c.self.view_is c.self.invariant c.args.ticket (sym c.is_live.ensures ∙ c.if-not-is_live.false) (number_of c.args.list) c.requires.live_list c.requires.list_in _ _ c.number.ensures c.move_back.ensures).kept
+invariant_of-self g c =
+    (shifts _ c.args.self.now c.self.inside.lent c.self.view_is c.self.invariant c.args.ticket
+    (sym c.is_live.ensures ∙ c.if-not-is_live.false) (number_of c.args.list) c.requires.live_list c.requires.list_in _ _
+    c.number.ensures c.move_back.ensures).kept
 
 pub returns-clause-lent : goal.returns-clause-lent
-returns-clause-lent g c = ap lent (shifts _ c.args.self.now c.self.inside.lent c.self.view_is c.self.invariant c.args.ticket (sym c.is_live.ensures ∙ c.if-not-is_live.false) (number_of c.args.list) c.requires.live_list c.requires.list_in _ _ c.number.ensures c.move_back.ensures).is ∙ shifts_lent _ c.args.self.now c.self.inside.lent c.self.view_is c.self.invariant c.args.ticket (sym c.is_live.ensures ∙ c.if-not-is_live.false) (number_of c.args.list) c.requires.live_list c.requires.list_in
+returns-clause-lent g c =
+    ap lent (shifts _ c.args.self.now c.self.inside.lent c.self.view_is c.self.invariant c.args.ticket
+    (sym c.is_live.ensures ∙ c.if-not-is_live.false) (number_of c.args.list) c.requires.live_list c.requires.list_in _ _
+    c.number.ensures c.move_back.ensures).is
+    ∙ shifts_lent _ c.args.self.now c.self.inside.lent c.self.view_is c.self.invariant c.args.ticket
+    (sym c.is_live.ensures ∙ c.if-not-is_live.false) (number_of c.args.list) c.requires.live_list c.requires.list_in
 
 pub returns-clause-puts : goal.returns-clause-puts
-returns-clause-puts g c = shifts_puts _ c.args.self.now c.self.inside.lent c.self.view_is c.self.invariant c.args.ticket (sym c.is_live.ensures ∙ c.if-not-is_live.false) (number_of c.args.list) c.requires.live_list c.requires.list_in _ (shifts _ c.args.self.now c.self.inside.lent c.self.view_is c.self.invariant c.args.ticket (sym c.is_live.ensures ∙ c.if-not-is_live.false) (number_of c.args.list) c.requires.live_list c.requires.list_in _ _ c.number.ensures c.move_back.ensures).is
+returns-clause-puts g c =
+    shifts_puts _ c.args.self.now c.self.inside.lent c.self.view_is c.self.invariant c.args.ticket
+    (sym c.is_live.ensures ∙ c.if-not-is_live.false) (number_of c.args.list) c.requires.live_list c.requires.list_in _
+    (shifts _ c.args.self.now c.self.inside.lent c.self.view_is c.self.invariant c.args.ticket
+    (sym c.is_live.ensures ∙ c.if-not-is_live.false) (number_of c.args.list) c.requires.live_list c.requires.list_in _ _
+    c.number.ensures c.move_back.ensures).is

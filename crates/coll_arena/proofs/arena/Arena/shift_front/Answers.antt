@@ -5,16 +5,34 @@ use Rattle.coll_arena.proofs.Calls.{in_links, low_named, shifts_front, shifts_fr
 use Rattle.coll_arena.proofs.arena.Arena.shift_front.Goals as goal
 
 pub returns-clause-shifted : goal.returns-clause-shifted
-returns-clause-shifted g c = (shifts_front _ c.args.self.now c.self.inside.lent c.self.view_is c.self.invariant c.args.ticket (sym c.is_live.ensures ∙ c.if-not-is_live.false) (number_of c.args.list) c.requires.live_list c.requires.list_in _ _ c.number.ensures c.move_front.ensures).is
+returns-clause-shifted g c =
+    (shifts_front _ c.args.self.now c.self.inside.lent c.self.view_is c.self.invariant c.args.ticket
+    (sym c.is_live.ensures ∙ c.if-not-is_live.false) (number_of c.args.list) c.requires.live_list c.requires.list_in _ _
+    c.number.ensures c.move_front.ensures).is
 
 pub move_front-requires-clause-node_in : goal.move_front-requires-clause-node_in
-move_front-requires-clause-node_in g c = in_links _ c.args.self.now c.self.inside.lent c.self.view_is c.self.invariant c.args.ticket.slot (low_named _ c.args.self.now c.self.inside.lent c.self.view_is c.self.invariant c.args.ticket (sym c.is_live.ensures ∙ c.if-not-is_live.false))
+move_front-requires-clause-node_in g c =
+    in_links _ c.args.self.now c.self.inside.lent c.self.view_is c.self.invariant c.args.ticket.slot
+    (low_named _ c.args.self.now c.self.inside.lent c.self.view_is c.self.invariant c.args.ticket (sym c.is_live.ensures ∙ c.if-not-is_live.false))
 
 pub invariant_of-self : goal.invariant_of-self
-invariant_of-self g c = (shifts_front _ c.args.self.now c.self.inside.lent c.self.view_is c.self.invariant c.args.ticket (sym c.is_live.ensures ∙ c.if-not-is_live.false) (number_of c.args.list) c.requires.live_list c.requires.list_in _ _ c.number.ensures c.move_front.ensures).kept
+invariant_of-self g c =
+    (shifts_front _ c.args.self.now c.self.inside.lent c.self.view_is c.self.invariant c.args.ticket
+    (sym c.is_live.ensures ∙ c.if-not-is_live.false) (number_of c.args.list) c.requires.live_list c.requires.list_in _ _
+    c.number.ensures c.move_front.ensures).kept
 
 pub returns-clause-lent : goal.returns-clause-lent
-returns-clause-lent g c = ap lent (shifts_front _ c.args.self.now c.self.inside.lent c.self.view_is c.self.invariant c.args.ticket (sym c.is_live.ensures ∙ c.if-not-is_live.false) (number_of c.args.list) c.requires.live_list c.requires.list_in _ _ c.number.ensures c.move_front.ensures).is ∙ shifts_front_lent _ c.args.self.now c.self.inside.lent c.self.view_is c.self.invariant c.args.ticket (sym c.is_live.ensures ∙ c.if-not-is_live.false) (number_of c.args.list) c.requires.live_list c.requires.list_in
+returns-clause-lent g c =
+    ap lent (shifts_front _ c.args.self.now c.self.inside.lent c.self.view_is c.self.invariant c.args.ticket
+    (sym c.is_live.ensures ∙ c.if-not-is_live.false) (number_of c.args.list) c.requires.live_list c.requires.list_in _ _
+    c.number.ensures c.move_front.ensures).is
+    ∙ shifts_front_lent _ c.args.self.now c.self.inside.lent c.self.view_is c.self.invariant c.args.ticket
+    (sym c.is_live.ensures ∙ c.if-not-is_live.false) (number_of c.args.list) c.requires.live_list c.requires.list_in
 
 pub returns-clause-puts : goal.returns-clause-puts
-returns-clause-puts g c = shifts_front_puts _ c.args.self.now c.self.inside.lent c.self.view_is c.self.invariant c.args.ticket (sym c.is_live.ensures ∙ c.if-not-is_live.false) (number_of c.args.list) c.requires.live_list c.requires.list_in _ (shifts_front _ c.args.self.now c.self.inside.lent c.self.view_is c.self.invariant c.args.ticket (sym c.is_live.ensures ∙ c.if-not-is_live.false) (number_of c.args.list) c.requires.live_list c.requires.list_in _ _ c.number.ensures c.move_front.ensures).is
+returns-clause-puts g c =
+    shifts_front_puts _ c.args.self.now c.self.inside.lent c.self.view_is c.self.invariant c.args.ticket
+    (sym c.is_live.ensures ∙ c.if-not-is_live.false) (number_of c.args.list) c.requires.live_list c.requires.list_in _
+    (shifts_front _ c.args.self.now c.self.inside.lent c.self.view_is c.self.invariant c.args.ticket
+    (sym c.is_live.ensures ∙ c.if-not-is_live.false) (number_of c.args.list) c.requires.live_list c.requires.list_in _ _
+    c.number.ensures c.move_front.ensures).is

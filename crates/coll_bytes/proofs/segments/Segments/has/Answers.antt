@@ -3,4 +3,5 @@ use Rattle.coll_bytes.proofs.Laying.{inside_of}
 use Rattle.coll_bytes.proofs.segments.Segments.has.Goals as goal
 
 pub shows_bytes-requires-clause-inside : goal.shows_bytes-requires-clause-inside
-shows_bytes-requires-clause-inside c = inside_of c.self.inside.size c.self.inside.segments.items c.args.self.now.bytes c.args.from (ap (λ v. v.bytes) c.self.view_is) c.self.invariant c.requires
+shows_bytes-requires-clause-inside c =
+    inside_of c.self.inside.size c.self.inside.segments.items c.args.self.now.bytes c.args.from (ap (λ v. v.bytes) c.self.view_is) c.self.invariant c.requires

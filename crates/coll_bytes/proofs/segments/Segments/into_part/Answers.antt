@@ -3,7 +3,11 @@ use Rattle.coll_bytes.proofs.Laying.{inside_of}
 use Rattle.coll_bytes.proofs.segments.Segments.into_part.Goals as goal
 
 pub holder-requires-clause-inside : goal.holder-requires-clause-inside
-holder-requires-clause-inside c = inside_of c.self.inside.size c.self.inside.segments.items c.args.self.bytes c.args.from (ap (λ v. v.bytes) c.self.view_is) c.self.invariant c.requires.inside
+holder-requires-clause-inside c =
+    inside_of c.self.inside.size c.self.inside.segments.items c.args.self.bytes c.args.from (ap (λ v. v.bytes) c.self.view_is)
+    c.self.invariant c.requires.inside
 
 pub compose_in-requires-clause-inside : goal.compose_in-requires-clause-inside
-compose_in-requires-clause-inside c = inside_of c.self.inside.size c.self.inside.segments.items c.args.self.bytes c.args.from (ap (λ v. v.bytes) c.self.view_is) c.self.invariant c.requires.inside
+compose_in-requires-clause-inside c =
+    inside_of c.self.inside.size c.self.inside.segments.items c.args.self.bytes c.args.from (ap (λ v. v.bytes) c.self.view_is)
+    c.self.invariant c.requires.inside

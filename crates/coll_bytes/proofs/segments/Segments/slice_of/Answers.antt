@@ -3,4 +3,5 @@ use Rattle.coll_bytes.proofs.Laying.{inside_of}
 use Rattle.coll_bytes.proofs.segments.Segments.slice_of.Goals as goal
 
 pub holder-requires-clause-inside : goal.holder-requires-clause-inside
-holder-requires-clause-inside c = inside_of c.self.inside.size c.self.inside.segments.items c.args.self.now.bytes c.args.from (ap (λ v. v.bytes) c.self.view_is) c.self.invariant c.requires
+holder-requires-clause-inside c =
+    inside_of c.self.inside.size c.self.inside.segments.items c.args.self.now.bytes c.args.from (ap (λ v. v.bytes) c.self.view_is) c.self.invariant c.requires

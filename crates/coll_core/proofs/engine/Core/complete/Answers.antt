@@ -7,17 +7,20 @@ use Rattle.coll_core.proofs.engine.Core.complete.Goals as goal
 
 pub is_on-requires : goal.is_on-requires
 is_on-requires c =
-    let owns = owned _ c.args.self.now c.args.rank c.args.ticket c.in_ok-request.request.now c.self.view_is c.in_ok-request.ensures.refused c.in_ok-request.ensures.named c.in_ok-request.ensures.found in
+    let owns = owned _ c.args.self.now c.args.rank c.args.ticket c.in_ok-request.request.now c.self.view_is
+    c.in_ok-request.ensures.refused c.in_ok-request.ensures.named c.in_ok-request.ensures.found in
     list_in _ c.self.inside.arena c.args.ticket.slot 6 c.in_ok-request.request.now c.self.invariant refl owns.found (omega arith)
 
 pub returns-then-not-is_on-clause-waits : goal.returns-then-not-is_on-clause-waits
 returns-then-not-is_on-clause-waits c none =
-    let owns = owned _ c.args.self.now c.args.rank c.args.ticket c.in_ok-request.request.now c.self.view_is c.in_ok-request.ensures.refused c.in_ok-request.ensures.named c.in_ok-request.ensures.found in
+    let owns = owned _ c.args.self.now c.args.rank c.args.ticket c.in_ok-request.request.now c.self.view_is
+    c.in_ok-request.ensures.refused c.in_ok-request.ensures.named c.in_ok-request.ensures.found in
     waits _ c.args.self.now c.args.rank c.args.ticket c.in_ok-request.request.now c.self.view_is owns c.if-not-is_on.ensures
 
 pub give_up-bytes-requires-clause-can : goal.give_up-bytes-requires-clause-can
 give_up-bytes-requires-clause-can c =
-    let owns = owned _ c.args.self.now c.args.rank c.args.ticket c.in_ok-request.request.now c.self.view_is c.in_ok-request.ensures.refused c.in_ok-request.ensures.named c.in_ok-request.ensures.found in
+    let owns = owned _ c.args.self.now c.args.rank c.args.ticket c.in_ok-request.request.now c.self.view_is
+    c.in_ok-request.ensures.refused c.in_ok-request.ensures.named c.in_ok-request.ensures.found in
     let on = on_done c.self.inside.arena c.args.ticket (6 + 3 * c.in_ok-request.request.now.comm) c.if-not-is_on.ensures in
     gives_up _ c.args.rank c.args.ticket c.in_ok-request.request.now c.self.invariant owns on
 
@@ -31,16 +34,19 @@ give_up-bytes-requires-clause-known c =
 
 pub leave-is_over-requires : goal.leave-is_over-requires
 leave-is_over-requires c =
-    let owns = owned _ c.args.self.now c.args.rank c.args.ticket c.in_ok-request.request.now c.self.view_is c.in_ok-request.ensures.refused c.in_ok-request.ensures.named c.in_ok-request.ensures.found in
+    let owns = owned _ c.args.self.now c.args.rank c.args.ticket c.in_ok-request.request.now c.self.view_is
+    c.in_ok-request.ensures.refused c.in_ok-request.ensures.named c.in_ok-request.ensures.found in
     let on = on_done c.self.inside.arena c.args.ticket (6 + 3 * c.in_ok-request.request.now.comm) c.if-not-is_on.ensures in
     seated _ c.args.rank c.args.ticket c.in_ok-request.request.now c.self.invariant owns on
     c.key-key.result c.member-member.result c.key-key.ensures c.member-member.ensures.member
 
 pub invariant_of-self : goal.invariant_of-self
 invariant_of-self c =
-    let owns = owned _ c.args.self.now c.args.rank c.args.ticket c.in_ok-request.request.now c.self.view_is c.in_ok-request.ensures.refused c.in_ok-request.ensures.named c.in_ok-request.ensures.found in
+    let owns = owned _ c.args.self.now c.args.rank c.args.ticket c.in_ok-request.request.now c.self.view_is
+    c.in_ok-request.ensures.refused c.in_ok-request.ensures.named c.in_ok-request.ensures.found in
     let on = on_done c.self.inside.arena c.args.ticket (6 + 3 * c.in_ok-request.request.now.comm) c.if-not-is_on.ensures in
-    kept _ c.give_up-bytes.new.arena c.leave-is_over.new.self c.args.ticket c.args.rank c.in_ok-request.request.now c.give_up-bytes.result.0 c.leave-is_over.result
+    kept _ c.give_up-bytes.new.arena c.leave-is_over.new.self c.args.ticket c.args.rank c.in_ok-request.request.now
+    c.give_up-bytes.result.0 c.leave-is_over.result
     c.key-key.result c.member-member.result c.self.invariant owns on
     c.give_up-bytes.ensures.bytes c.give_up-bytes.ensures.rests c.key-key.ensures c.member-member.ensures.member
     (record {
@@ -53,9 +59,11 @@ invariant_of-self c =
 
 pub returns-clause-completes : goal.returns-clause-completes
 returns-clause-completes c =
-    let owns = owned _ c.args.self.now c.args.rank c.args.ticket c.in_ok-request.request.now c.self.view_is c.in_ok-request.ensures.refused c.in_ok-request.ensures.named c.in_ok-request.ensures.found in
+    let owns = owned _ c.args.self.now c.args.rank c.args.ticket c.in_ok-request.request.now c.self.view_is
+    c.in_ok-request.ensures.refused c.in_ok-request.ensures.named c.in_ok-request.ensures.found in
     let on = on_done c.self.inside.arena c.args.ticket (6 + 3 * c.in_ok-request.request.now.comm) c.if-not-is_on.ensures in
-    completes _ c.give_up-bytes.new.arena c.leave-is_over.new.self c.args.ticket c.args.rank c.in_ok-request.request.now c.give_up-bytes.result.0 c.leave-is_over.result
+    completes _ c.give_up-bytes.new.arena c.leave-is_over.new.self c.args.ticket c.args.rank c.in_ok-request.request.now
+    c.give_up-bytes.result.0 c.leave-is_over.result
     c.key-key.result c.member-member.result c.self.invariant owns on
     c.give_up-bytes.ensures.bytes c.give_up-bytes.ensures.rests c.key-key.ensures c.member-member.ensures.member
     (record {
@@ -69,9 +77,11 @@ returns-clause-completes c =
 
 pub returns-clause-progress : goal.returns-clause-progress
 returns-clause-progress c =
-    let owns = owned _ c.args.self.now c.args.rank c.args.ticket c.in_ok-request.request.now c.self.view_is c.in_ok-request.ensures.refused c.in_ok-request.ensures.named c.in_ok-request.ensures.found in
+    let owns = owned _ c.args.self.now c.args.rank c.args.ticket c.in_ok-request.request.now c.self.view_is
+    c.in_ok-request.ensures.refused c.in_ok-request.ensures.named c.in_ok-request.ensures.found in
     let on = on_done c.self.inside.arena c.args.ticket (6 + 3 * c.in_ok-request.request.now.comm) c.if-not-is_on.ensures in
-    retires_alone _ c.give_up-bytes.new.arena c.leave-is_over.new.self c.args.ticket c.args.rank c.in_ok-request.request.now c.give_up-bytes.result.0 c.leave-is_over.result
+    retires_alone _ c.give_up-bytes.new.arena c.leave-is_over.new.self c.args.ticket c.args.rank c.in_ok-request.request.now
+    c.give_up-bytes.result.0 c.leave-is_over.result
     c.key-key.result c.member-member.result c.self.invariant owns on
     c.give_up-bytes.ensures.bytes c.give_up-bytes.ensures.rests c.key-key.ensures c.member-member.ensures.member
     (record {

@@ -17,12 +17,15 @@ act-requires-clause-fits c =
 pub invariant_of-self : goal.invariant_of-self
 invariant_of-self c =
     let same = same_written c.self.inside.arena c.args.ticket.slot c.in-Ok.request.now c.act.new.self c.in-Ok.ensures.found c.in_err-act.ensures.err in
-    subst (λ (a : Slots Request). IsCore (parts c.self.inside.ranks c.self.inside.starts c.self.inside.trace a c.self.inside.queues c.self.inside.matches)) (sym same) c.self.invariant
+    subst (λ (a : Slots Request). IsCore (parts c.self.inside.ranks c.self.inside.starts c.self.inside.trace a c.self.inside.queues c.self.inside.matches))
+    (sym same) c.self.invariant
 
 pub returns-in_err-act-clause-err : goal.returns-in_err-act-clause-err
 returns-in_err-act-clause-err c =
     let same = same_written c.self.inside.arena c.args.ticket.slot c.in-Ok.request.now c.act.new.self c.in-Ok.ensures.found c.in_err-act.ensures.err in
-    on_err c.from_residual.result _ (ap (λ (a : Slots Request). parts c.self.inside.ranks c.self.inside.starts c.self.inside.trace a c.self.inside.queues c.self.inside.matches) same ∙ c.self.view_is)
+    on_err c.from_residual.result _
+    (ap (λ (a : Slots Request). parts c.self.inside.ranks c.self.inside.starts c.self.inside.trace a c.self.inside.queues c.self.inside.matches) same
+    ∙ c.self.view_is)
 
 pub advance-requires : goal.advance-requires
 advance-requires c =
@@ -43,7 +46,9 @@ pub returns-clause-acts : goal.returns-clause-acts
 returns-clause-acts c =
     let at = acts_at _ c.args.self.now c.args.ticket c.in-Ok.request.now c.args.action c.self.view_is c.requires.acting c.in-Ok.ensures.found in
     let x = c.in-Ok.request.now in
-    subst (λ (p : Parts). Acts p (parts c.self.inside.ranks c.self.inside.starts c.self.inside.trace c.advance.new.arena c.self.inside.queues c.self.inside.matches) c.advance.result) c.self.view_is
+    subst (λ (p : Parts). Acts p
+    (parts c.self.inside.ranks c.self.inside.starts c.self.inside.trace c.advance.new.arena c.self.inside.queues c.self.inside.matches) c.advance.result)
+    c.self.view_is
     (computed c.self.inside.ranks c.self.inside.starts c.self.inside.trace c.self.inside.arena c.advance.new.arena c.self.inside.queues c.self.inside.matches
     c.args.ticket x _ c.args.action c.act.new.self c.advance.result c.is_sound.ensures c.self.invariant at c.requires.local
     c.in_ok-act.ensures.ok

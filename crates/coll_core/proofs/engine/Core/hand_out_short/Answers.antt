@@ -16,12 +16,14 @@ pub returns-then-not-is_short-clause-short : goal.returns-then-not-is_short-clau
 returns-then-not-is_short-clause-short c =
     let is_first = first_of _ c.args.self.now c.in-Some.ticket c.self.view_is (c.first.ensures.found c.in-Some.ticket c.in-Some.is) in (
       (λ yes. absurd (false≢true yes)),
-      λ h. absurd (long_first c.args.self.now c.in-Some.ticket c.next_of-action.result is_first c.next_of-action.ensures (λ s. false≢true (sym c.if-not-is_short.true ∙ c.is_short.ensures.1 s)) h),
+      λ h. absurd (long_first c.args.self.now c.in-Some.ticket c.next_of-action.result is_first c.next_of-action.ensures
+          (λ s. false≢true (sym c.if-not-is_short.true ∙ c.is_short.ensures.1 s)) h),
     )
 
 pub returns-clause-short : goal.returns-clause-short
 returns-clause-short c =
     let is_first = first_of _ c.args.self.now c.in-Some.ticket c.self.view_is (c.first.ensures.found c.in-Some.ticket c.in-Some.is) in (
-      (λ yes. short_first c.args.self.now c.in-Some.ticket c.next_of-action.result is_first c.next_of-action.ensures (c.is_short.ensures.0 c.if-not-is_short.false)),
+      (λ yes. short_first c.args.self.now c.in-Some.ticket c.next_of-action.result is_first c.next_of-action.ensures
+          (c.is_short.ensures.0 c.if-not-is_short.false)),
       λ h. refl,
     )

@@ -7,7 +7,16 @@ use Rattle.coll_core.proofs.engine.Core.make_instance.Goals as goal
 
 pub invariant_of-self : goal.invariant_of-self
 invariant_of-self c =
-    let p : Parts = record { ranks = c.self.inside.ranks; starts = c.self.inside.starts; trace = c.self.inside.trace; arena = c.self.inside.arena; queues = c.self.inside.queues; matches = c.self.inside.matches } in
+    let p : Parts =
+    record {
+      ranks = c.self.inside.ranks;
+      starts = c.self.inside.starts;
+      trace = c.self.inside.trace;
+      arena =
+          c.self.inside.arena;
+      queues = c.self.inside.queues;
+      matches = c.self.inside.matches;
+    } in
     let n_is : c.args.n ≡ size (setting p) c.args.key.comm = c.requires ∙ sym (ap (λ (x : Parts). size (setting x) c.args.key.comm) c.self.view_is) in
     let made : HasMade p.queues p.queues p.matches c.room.new.self c.args.key (size (setting p) c.args.key.comm) =
     subst (λ s. HasMade p.queues p.queues p.matches c.room.new.self c.args.key s) n_is
@@ -16,7 +25,16 @@ invariant_of-self c =
 
 pub returns-clause-unchanged : goal.returns-clause-unchanged
 returns-clause-unchanged c =
-    let p : Parts = record { ranks = c.self.inside.ranks; starts = c.self.inside.starts; trace = c.self.inside.trace; arena = c.self.inside.arena; queues = c.self.inside.queues; matches = c.self.inside.matches } in
+    let p : Parts =
+    record {
+      ranks = c.self.inside.ranks;
+      starts = c.self.inside.starts;
+      trace = c.self.inside.trace;
+      arena =
+          c.self.inside.arena;
+      queues = c.self.inside.queues;
+      matches = c.self.inside.matches;
+    } in
     let n_is : c.args.n ≡ size (setting p) c.args.key.comm = c.requires ∙ sym (ap (λ (x : Parts). size (setting x) c.args.key.comm) c.self.view_is) in
     let made : HasMade p.queues p.queues p.matches c.room.new.self c.args.key (size (setting p) c.args.key.comm) =
     subst (λ s. HasMade p.queues p.queues p.matches c.room.new.self c.args.key s) n_is
@@ -25,6 +43,15 @@ returns-clause-unchanged c =
 
 pub returns-clause-room : goal.returns-clause-room
 returns-clause-room c =
-    let p : Parts = record { ranks = c.self.inside.ranks; starts = c.self.inside.starts; trace = c.self.inside.trace; arena = c.self.inside.arena; queues = c.self.inside.queues; matches = c.self.inside.matches } in
+    let p : Parts =
+    record {
+      ranks = c.self.inside.ranks;
+      starts = c.self.inside.starts;
+      trace = c.self.inside.trace;
+      arena =
+          c.self.inside.arena;
+      queues = c.self.inside.queues;
+      matches = c.self.inside.matches;
+    } in
     let n_is : c.args.n ≡ size (setting p) c.args.key.comm = c.requires ∙ sym (ap (λ (x : Parts). size (setting x) c.args.key.comm) c.self.view_is) in
     roomy c.room.result p.matches c.room.new.self c.args.key c.args.n (λ j e. c.self.invariant.sizes c.args.key j e ∙ sym n_is) c.room.ensures.room

@@ -19,20 +19,43 @@ laid_for r offer buffer all is = subst (λ x. IfOk x (λ b. IsLaid offer b)) is 
 
 pub returns-clause-buffer : goal.returns-clause-buffer
 returns-clause-buffer c =
-    let p : Parts = record { ranks = c.self.inside.ranks; starts = c.self.inside.starts; trace = c.self.inside.trace; arena = c.self.inside.arena; queues = c.self.inside.queues; matches = c.self.inside.matches } in
+    let p : Parts =
+    record {
+      ranks = c.self.inside.ranks;
+      starts = c.self.inside.starts;
+      trace = c.self.inside.trace;
+      arena =
+          c.self.inside.arena;
+      queues = c.self.inside.queues;
+      matches = c.self.inside.matches;
+    } in
     let plan = planned c.args.offer.now.plan in
     let bytes = c.args.offer.now.bytes in
-    let accepted : refused_in p (Post c.args.rank c.args.comm plan bytes) ≡ None = accepted_from p c.args.self.now (Post c.args.rank c.args.comm plan bytes) c.self.view_is c.requires.accepted in
-    let tested : MayEnter (setting p) p.arena p.queues c.args.rank c.args.comm Once plan × (length bytes ≡ given_len plan.sig plan.n plan.member) = (entry_core shown (setting p) p.arena p.queues p.matches c.args.rank c.args.comm plan c.self.invariant c.is_sound.ensures).0 bytes accepted in
-    laid_for c.args.laid c.args.offer.now c.in_ok-buffer.buffer c.requires.laid c.in_ok-buffer.was (tested.1 ∙ sym (c.is_planned.ensures.serves.takes_given plan.member tested.0.low))
+    let accepted : refused_in p (Post c.args.rank c.args.comm plan bytes) ≡ None =
+    accepted_from p c.args.self.now (Post c.args.rank c.args.comm plan bytes) c.self.view_is c.requires.accepted in
+    let tested : MayEnter (setting p) p.arena p.queues c.args.rank c.args.comm Once plan × (length bytes ≡ given_len plan.sig plan.n plan.member) =
+    (entry_core shown (setting p) p.arena p.queues p.matches c.args.rank c.args.comm plan c.self.invariant c.is_sound.ensures).0 bytes accepted in
+    laid_for c.args.laid c.args.offer.now c.in_ok-buffer.buffer c.requires.laid c.in_ok-buffer.was
+    (tested.1 ∙ sym (c.is_planned.ensures.serves.takes_given plan.member tested.0.low))
 
 pub make_instance-requires : goal.make_instance-requires
 make_instance-requires c =
-    let p : Parts = record { ranks = c.self.inside.ranks; starts = c.self.inside.starts; trace = c.self.inside.trace; arena = c.self.inside.arena; queues = c.self.inside.queues; matches = c.self.inside.matches } in
+    let p : Parts =
+    record {
+      ranks = c.self.inside.ranks;
+      starts = c.self.inside.starts;
+      trace = c.self.inside.trace;
+      arena =
+          c.self.inside.arena;
+      queues = c.self.inside.queues;
+      matches = c.self.inside.matches;
+    } in
     let plan = planned c.args.offer.now.plan in
     let bytes = c.args.offer.now.bytes in
-    let accepted : refused_in p (Post c.args.rank c.args.comm plan bytes) ≡ None = accepted_from p c.args.self.now (Post c.args.rank c.args.comm plan bytes) c.self.view_is c.requires.accepted in
-    let tested : MayEnter (setting p) p.arena p.queues c.args.rank c.args.comm Once plan × (length bytes ≡ given_len plan.sig plan.n plan.member) = (entry_core shown (setting p) p.arena p.queues p.matches c.args.rank c.args.comm plan c.self.invariant c.is_sound.ensures).0 bytes accepted in
+    let accepted : refused_in p (Post c.args.rank c.args.comm plan bytes) ≡ None =
+    accepted_from p c.args.self.now (Post c.args.rank c.args.comm plan bytes) c.self.view_is c.requires.accepted in
+    let tested : MayEnter (setting p) p.arena p.queues c.args.rank c.args.comm Once plan × (length bytes ≡ given_len plan.sig plan.n plan.member) =
+    (entry_core shown (setting p) p.arena p.queues p.matches c.args.rank c.args.comm plan c.self.invariant c.is_sound.ensures).0 bytes accepted in
     c.n.ensures.n ∙ (tested.0.size_is ∙ (ap (λ (x : Parts). size (setting x) c.args.comm) c.self.view_is
     ∙ sym (ap (λ (g : Setting). size g c.args.comm) c.make_place.ensures.unchanged.setting_is)))
 
@@ -41,14 +64,26 @@ low a b c d h e f = omega arith
 
 pub returns-clause-room : goal.returns-clause-room
 returns-clause-room c =
-    let p : Parts = record { ranks = c.self.inside.ranks; starts = c.self.inside.starts; trace = c.self.inside.trace; arena = c.self.inside.arena; queues = c.self.inside.queues; matches = c.self.inside.matches } in
+    let p : Parts =
+    record {
+      ranks = c.self.inside.ranks;
+      starts = c.self.inside.starts;
+      trace = c.self.inside.trace;
+      arena =
+          c.self.inside.arena;
+      queues = c.self.inside.queues;
+      matches = c.self.inside.matches;
+    } in
     let plan = planned c.args.offer.now.plan in
     let bytes = c.args.offer.now.bytes in
-    let accepted : refused_in p (Post c.args.rank c.args.comm plan bytes) ≡ None = accepted_from p c.args.self.now (Post c.args.rank c.args.comm plan bytes) c.self.view_is c.requires.accepted in
-    let tested : MayEnter (setting p) p.arena p.queues c.args.rank c.args.comm Once plan × (length bytes ≡ given_len plan.sig plan.n plan.member) = (entry_core shown (setting p) p.arena p.queues p.matches c.args.rank c.args.comm plan c.self.invariant c.is_sound.ensures).0 bytes accepted in
+    let accepted : refused_in p (Post c.args.rank c.args.comm plan bytes) ≡ None =
+    accepted_from p c.args.self.now (Post c.args.rank c.args.comm plan bytes) c.self.view_is c.requires.accepted in
+    let tested : MayEnter (setting p) p.arena p.queues c.args.rank c.args.comm Once plan × (length bytes ≡ given_len plan.sig plan.n plan.member) =
+    (entry_core shown (setting p) p.arena p.queues p.matches c.args.rank c.args.comm plan c.self.invariant c.is_sound.ensures).0 bytes accepted in
     record {
       posting = subst (λ (q : Postings). HasRoom q c.args.comm c.args.rank) (sym c.make_instance.ensures.queues) c.in_ok-make_place.ensures.room;
       sharing = subst (λ place. plan.member < instances.size c.make_instance.new.self.matches (record { comm = c.args.comm; place = place; start = 0 }))
-          (c.place_of.ensures ∙ ap (λ (p : Parts). place_of p.queues c.args.comm c.args.rank) c.self-2.view_is ∙ ap (λ (q : Postings). place_of q c.args.comm c.args.rank) (sym c.make_instance.ensures.queues))
+          (c.place_of.ensures ∙ ap (λ (p : Parts). place_of p.queues c.args.comm c.args.rank) c.self-2.view_is
+          ∙ ap (λ (q : Postings). place_of q c.args.comm c.args.rank) (sym c.make_instance.ensures.queues))
           (low plan.member plan.n c.n.result _ tested.0.low c.n.ensures.n c.in_ok-make_instance.ensures.room);
     }

@@ -12,7 +12,8 @@ use Rattle.coll_core.proofs.engine.Core.make_start_room.Goals as goal
 pub lay_in-requires : goal.lay_in-requires
 lay_in-requires c =
     takes_in _ c.args.ticket.slot c.in-Ok.request.now c.args.bytes.now c.schedule.result.now c.self.invariant c.in-Ok.ensures.found
-    (subst (λ p. IfSome (record_in p.arena c.args.ticket.slot) (λ x. length c.args.bytes.now ≡ given_len x.plan.sig x.plan.n x.plan.member)) (sym c.self.view_is) c.requires.long)
+    (subst (λ p. IfSome (record_in p.arena c.args.ticket.slot) (λ x. length c.args.bytes.now ≡ given_len x.plan.sig x.plan.n x.plan.member))
+    (sym c.self.view_is) c.requires.long)
     c.schedule.ensures.schedule
 
 pub make_instance-requires : goal.make_instance-requires
@@ -22,6 +23,7 @@ make_instance-requires c =
 
 pub returns-clause-room : goal.returns-clause-room
 returns-clause-room c =
-    subst (λ (p : Parts). IfSome (record_in p.arena c.args.ticket.slot) (λ x. x.plan.member < room_of c.make_instance.new.self.matches (next_instance x))) c.self.view_is
+    subst (λ (p : Parts). IfSome (record_in p.arena c.args.ticket.slot) (λ x. x.plan.member < room_of c.make_instance.new.self.matches (next_instance x)))
+    c.self.view_is
     (has_room _ c.args.ticket.slot c.n-n.result c.in-Ok.request.now c.self.invariant c.in-Ok.ensures.found c.n-n.ensures.n
     c.make_instance.new.self.matches c.in_ok-make_instance.ensures.room)

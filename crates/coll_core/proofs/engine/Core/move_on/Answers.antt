@@ -12,9 +12,11 @@ returns-in_ok-act-in_default-next_of c =
     record {
       quiet = (
         (λ q. absurd (by_not_quiet c.in_ok-act-in_default-next_of.field-0 c.by.result c.by.ensures (ap Ok q))),
-        λ h. absurd (acts_without_work c.args.self.now c.in-Some.ticket c.next_of.result is_first c.next_of.ensures (not_combine c.next_of.result c.in_default-next_of.not-Combine) h),
+        λ h. absurd (acts_without_work c.args.self.now c.in-Some.ticket c.next_of.result is_first c.next_of.ensures
+            (not_combine c.next_of.result c.in_default-next_of.not-Combine) h),
       );
-      steps = steps_on c.args.self.now c.act.new.self c.in_ok-act-in_default-next_of.field-0 c.by.result c.by.ensures c.in_ok-act-in_default-next_of.ensures.acts;
+      steps = steps_on c.args.self.now c.act.new.self c.in_ok-act-in_default-next_of.field-0 c.by.result c.by.ensures
+          c.in_ok-act-in_default-next_of.ensures.acts;
       inside = by_inside c.in_ok-act-in_default-next_of.field-0 c.by.result c.by.ensures;
       err = tt;
       refusal = tt;

@@ -27,7 +27,8 @@ begun c =
     (ap length groups
     ∙ (length-map c.args.config.groups.items (λ (group : Vec ℕ Global). group.items) ∙ (sym c.args.config.groups.ok.0 ∙ sym c.len-comms.ensures)))
     (have_groups (parts c) c.args.config.groups.items groups fits.groups.2)
-    c.in_ok-queues.ensures.posts (ap (λ (s : LookUps). s.members) c.new.ensures) (ap (λ (s : LookUps). s.given) c.new.ensures) (ap (λ (s : LookUps). s.seats) c.new.ensures) (ap (λ (s : LookUps). s.mail) c.new.ensures)
+    c.in_ok-queues.ensures.posts (ap (λ (s : LookUps). s.members) c.new.ensures) (ap (λ (s : LookUps). s.given) c.new.ensures)
+    (ap (λ (s : LookUps). s.seats) c.new.ensures) (ap (λ (s : LookUps). s.mail) c.new.ensures)
 
 pub invariant_of-result : goal.invariant_of-result
 invariant_of-result c = (begun c).0

@@ -15,4 +15,5 @@ enter-requires-clause-accepted c =
 
 pub returns-clause-begins : goal.returns-clause-begins
 returns-clause-begins c =
-    begins_since c.args.self.now c.make_room.new.self c.enter.new.self c.enter.result.slot (family c.args.offer.plan.sig c.args.offer.plan.n c.args.offer.plan.member) c.make_room.ensures.unchanged c.enter.ensures.begins
+    begins_since c.args.self.now c.make_room.new.self c.enter.new.self c.enter.result.slot
+    (family c.args.offer.plan.sig c.args.offer.plan.n c.args.offer.plan.member) c.make_room.ensures.unchanged c.enter.ensures.begins

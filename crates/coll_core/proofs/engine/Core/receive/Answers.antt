@@ -13,7 +13,8 @@ write-requires-clause-same c =
     let x = c.in-Ok.request.now in
     let at = acts_at _ c.args.self.now c.args.ticket x (Recv c.args.of c.args.into) c.self.view_is c.requires c.in-Ok.ensures.found in
     message_long _ c.args.ticket x c.args.of c.args.into c.in-Some.message c.self.invariant at
-    (message_came c.self.inside.matches x c.args.of c.key-key.result c.member-member.result c.key-key.ensures c.member-member.ensures.member c.in-Some.message c.in-Some.ensures.taken)
+    (message_came c.self.inside.matches x c.args.of c.key-key.result c.member-member.result c.key-key.ensures
+    c.member-member.ensures.member c.in-Some.message c.in-Some.ensures.taken)
 
 pub advance-requires : goal.advance-requires
 advance-requires c =
@@ -26,11 +27,19 @@ pub invariant_of-self : goal.invariant_of-self
 invariant_of-self c =
     let x = c.in-Ok.request.now in
     let at = acts_at _ c.args.self.now c.args.ticket x (Recv c.args.of c.args.into) c.self.view_is c.requires c.in-Ok.ensures.found in
-    (received c.self.inside.ranks c.self.inside.starts c.self.inside.trace c.self.inside.arena c.advance.new.arena c.self.inside.queues c.self.inside.matches c.take.new.self
+    (received c.self.inside.ranks c.self.inside.starts c.self.inside.trace c.self.inside.arena c.advance.new.arena
+    c.self.inside.queues c.self.inside.matches c.take.new.self
     c.args.ticket x _ c.args.of c.args.into c.in-Some.message c.write.new.self c.advance.result c.is_sound.ensures c.self.invariant at
-    (record { members = (ap (λ (s : LookUps). s.members) c.take.ensures.gone); given = (ap (λ (s : LookUps). s.given) c.take.ensures.gone); seats = (ap (λ (s : LookUps). s.seats) c.take.ensures.gone) })
-    (message_came c.self.inside.matches x c.args.of c.key-key.result c.member-member.result c.key-key.ensures c.member-member.ensures.member c.in-Some.message c.in-Some.ensures.taken)
-    (message_taken c.self.inside.matches x c.args.of c.key-key.result c.member-member.result c.key-key.ensures c.member-member.ensures.member c.take.new.self (ap (λ (s : LookUps). s.mail) c.take.ensures.gone))
+    (record {
+      members = (ap (λ (s : LookUps). s.members) c.take.ensures.gone);
+      given =
+          (ap (λ (s : LookUps). s.given) c.take.ensures.gone);
+      seats = (ap (λ (s : LookUps). s.seats) c.take.ensures.gone);
+    })
+    (message_came c.self.inside.matches x c.args.of c.key-key.result c.member-member.result c.key-key.ensures
+    c.member-member.ensures.member c.in-Some.message c.in-Some.ensures.taken)
+    (message_taken c.self.inside.matches x c.args.of c.key-key.result c.member-member.result c.key-key.ensures
+    c.member-member.ensures.member c.take.new.self (ap (λ (s : LookUps). s.mail) c.take.ensures.gone))
     c.write.ensures
     (record { is = refl; round_is = refl; index_is = refl; buf = refl }) c.advance.ensures).0
 
@@ -38,11 +47,21 @@ pub returns : goal.returns
 returns c =
     let x = c.in-Ok.request.now in
     let at = acts_at _ c.args.self.now c.args.ticket x (Recv c.args.of c.args.into) c.self.view_is c.requires c.in-Ok.ensures.found in
-    subst (λ (p : Parts). Acts p (parts c.self.inside.ranks c.self.inside.starts c.self.inside.trace c.advance.new.arena c.self.inside.queues c.take.new.self) c.advance.result) c.self.view_is
-    (received c.self.inside.ranks c.self.inside.starts c.self.inside.trace c.self.inside.arena c.advance.new.arena c.self.inside.queues c.self.inside.matches c.take.new.self
+    subst (λ (p : Parts). Acts p
+    (parts c.self.inside.ranks c.self.inside.starts c.self.inside.trace c.advance.new.arena c.self.inside.queues c.take.new.self) c.advance.result)
+    c.self.view_is
+    (received c.self.inside.ranks c.self.inside.starts c.self.inside.trace c.self.inside.arena c.advance.new.arena
+    c.self.inside.queues c.self.inside.matches c.take.new.self
     c.args.ticket x _ c.args.of c.args.into c.in-Some.message c.write.new.self c.advance.result c.is_sound.ensures c.self.invariant at
-    (record { members = (ap (λ (s : LookUps). s.members) c.take.ensures.gone); given = (ap (λ (s : LookUps). s.given) c.take.ensures.gone); seats = (ap (λ (s : LookUps). s.seats) c.take.ensures.gone) })
-    (message_came c.self.inside.matches x c.args.of c.key-key.result c.member-member.result c.key-key.ensures c.member-member.ensures.member c.in-Some.message c.in-Some.ensures.taken)
-    (message_taken c.self.inside.matches x c.args.of c.key-key.result c.member-member.result c.key-key.ensures c.member-member.ensures.member c.take.new.self (ap (λ (s : LookUps). s.mail) c.take.ensures.gone))
+    (record {
+      members = (ap (λ (s : LookUps). s.members) c.take.ensures.gone);
+      given =
+          (ap (λ (s : LookUps). s.given) c.take.ensures.gone);
+      seats = (ap (λ (s : LookUps). s.seats) c.take.ensures.gone);
+    })
+    (message_came c.self.inside.matches x c.args.of c.key-key.result c.member-member.result c.key-key.ensures
+    c.member-member.ensures.member c.in-Some.message c.in-Some.ensures.taken)
+    (message_taken c.self.inside.matches x c.args.of c.key-key.result c.member-member.result c.key-key.ensures
+    c.member-member.ensures.member c.take.new.self (ap (λ (s : LookUps). s.mail) c.take.ensures.gone))
     c.write.ensures
     (record { is = refl; round_is = refl; index_is = refl; buf = refl }) c.advance.ensures).1

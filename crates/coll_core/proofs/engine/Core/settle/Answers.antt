@@ -16,4 +16,5 @@ overflow_add-steps c =
     omega (arith, most, c.loop-ticket.invariant.lowers)
 
 pub loop-ticket-preserved : goal.loop-ticket-preserved
-loop-ticket-preserved c = ran_more c.args.self.now c.loop-ticket.self c.act.new.self c.loop-ticket.steps c.in_ok-act.field-0 c.loop-ticket.invariant c.in_ok-act.ensures.acts
+loop-ticket-preserved c =
+    ran_more c.args.self.now c.loop-ticket.self c.act.new.self c.loop-ticket.steps c.in_ok-act.field-0 c.loop-ticket.invariant c.in_ok-act.ensures.acts

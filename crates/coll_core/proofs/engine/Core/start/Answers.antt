@@ -33,7 +33,9 @@ invariant_of-self c =
     (read_as c.args.self.now c.args.rank c.args.ticket c.as_slice.result.now c.args.bytes _ c.as_slice.ensures c.in_default.ensures.refused)
     c.in_default.ensures.named (subst AreBytes c.as_slice.ensures c.in_default.ensures.bytes)
     c.in-Ok.ensures.buffer
-    (subst (λ (bytes : List ℕ). IfSome (record_in c.self.inside.arena c.args.ticket.slot) (λ x. Begun c.self.inside.arena c.begin.new.arena c.self.inside.matches c.begin.new.matches c.args.ticket x bytes c.in-Ok.buffer)) (c.into_bytes-given.ensures ∙ c.in-Ok.ensures.bytes) c.begin.ensures)
+    (subst (λ (bytes : List ℕ). IfSome (record_in c.self.inside.arena c.args.ticket.slot)
+    (λ x. Begun c.self.inside.arena c.begin.new.arena c.self.inside.matches c.begin.new.matches c.args.ticket x bytes c.in-Ok.buffer))
+    (c.into_bytes-given.ensures ∙ c.in-Ok.ensures.bytes) c.begin.ensures)
 
 pub returns-clause-starts : goal.returns-clause-starts
 returns-clause-starts c =
@@ -44,7 +46,9 @@ returns-clause-starts c =
     (read_as c.args.self.now c.args.rank c.args.ticket c.as_slice.result.now c.args.bytes _ c.as_slice.ensures c.in_default.ensures.refused)
     c.in_default.ensures.named (subst AreBytes c.as_slice.ensures c.in_default.ensures.bytes)
     c.in-Ok.ensures.buffer
-    (subst (λ (bytes : List ℕ). IfSome (record_in c.self.inside.arena c.args.ticket.slot) (λ x. Begun c.self.inside.arena c.begin.new.arena c.self.inside.matches c.begin.new.matches c.args.ticket x bytes c.in-Ok.buffer)) (c.into_bytes-given.ensures ∙ c.in-Ok.ensures.bytes) c.begin.ensures)
+    (subst (λ (bytes : List ℕ). IfSome (record_in c.self.inside.arena c.args.ticket.slot)
+    (λ x. Begun c.self.inside.arena c.begin.new.arena c.self.inside.matches c.begin.new.matches c.args.ticket x bytes c.in-Ok.buffer))
+    (c.into_bytes-given.ensures ∙ c.in-Ok.ensures.bytes) c.begin.ensures)
 
 pub returns-clause-begins : goal.returns-clause-begins
 returns-clause-begins c =
@@ -54,4 +58,6 @@ returns-clause-begins c =
     c.begin.new.arena c.begin.new.matches c.args.rank c.args.bytes c.in-Ok.buffer
     (read_as c.args.self.now c.args.rank c.args.ticket c.as_slice.result.now c.args.bytes _ c.as_slice.ensures c.in_default.ensures.refused)
     c.in_default.ensures.named (subst AreBytes c.as_slice.ensures c.in_default.ensures.bytes)
-    c.in-Ok.ensures.buffer (subst (λ (bytes : List ℕ). IfSome (record_in c.self.inside.arena c.args.ticket.slot) (λ x. Begun c.self.inside.arena c.begin.new.arena c.self.inside.matches c.begin.new.matches c.args.ticket x bytes c.in-Ok.buffer)) (c.into_bytes-given.ensures ∙ c.in-Ok.ensures.bytes) c.begin.ensures) c.is_sound.ensures
+    c.in-Ok.ensures.buffer (subst (λ (bytes : List ℕ). IfSome (record_in c.self.inside.arena c.args.ticket.slot)
+    (λ x. Begun c.self.inside.arena c.begin.new.arena c.self.inside.matches c.begin.new.matches c.args.ticket x bytes c.in-Ok.buffer))
+    (c.into_bytes-given.ensures ∙ c.in-Ok.ensures.bytes) c.begin.ensures) c.is_sound.ensures

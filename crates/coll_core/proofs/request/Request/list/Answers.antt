@@ -10,14 +10,16 @@ returns-then-ready-clause-stands c =
     let h = is_some-true (mail c.args.matches.now c.key.result c.in-Some-Recv.of c.member.result c.args.self.now.round) c.if-ready.ensures in
     ready (Recv c.in-Some-Recv.of c.in-Some-Recv.field-0-1) refl refl
     (sym c.next.ensures.is ∙ (c.in-Some-Recv.is ∙ ap Some c.in-Some-Recv.field-0-is))
-    (some_at (λ k m. mail c.args.matches.now k c.in-Some-Recv.of m c.args.self.now.round) c.key.result _ c.member.result _ c.key.ensures c.member.ensures.member h)
+    (some_at (λ k m. mail c.args.matches.now k c.in-Some-Recv.of m c.args.self.now.round) c.key.result _ c.member.result _
+    c.key.ensures c.member.ensures.member h)
 
 pub returns-else-ready-clause-stands : goal.returns-else-ready-clause-stands
 returns-else-ready-clause-stands c =
     let h = is_some-false (mail c.args.matches.now c.key.result c.in-Some-Recv.of c.member.result c.args.self.now.round) c.if-ready.ensures in
     queued c.in-Some-Recv.of c.in-Some-Recv.field-0-1 refl refl
     (sym c.next.ensures.is ∙ (c.in-Some-Recv.is ∙ ap Some c.in-Some-Recv.field-0-is))
-    (none_at (λ k m. mail c.args.matches.now k c.in-Some-Recv.of m c.args.self.now.round) c.key.result _ c.member.result _ c.key.ensures c.member.ensures.member h)
+    (none_at (λ k m. mail c.args.matches.now k c.in-Some-Recv.of m c.args.self.now.round) c.key.result _ c.member.result _
+    c.key.ensures c.member.ensures.member h)
 
 pub returns-in-Some-Send-clause-stands : goal.returns-in-Some-Send-clause-stands
 returns-in-Some-Send-clause-stands c =

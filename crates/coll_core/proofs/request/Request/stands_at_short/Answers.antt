@@ -12,5 +12,6 @@ returns-then-has c =
     let same : c.are_alike_short.result ≡ true = search in
     let alike : (w.op ≡ c.args.work.now.op) × (w.ty ≡ c.args.work.now.ty) = c.are_alike_short.ensures.0 same in
     let left_is = c.has.ensures.0 c.if-has.true ∙ c.left.ensures in
-    stands_by (shown c.args.self.now) c.args.work.now w.op w.ty w.left w.right w.field-0-4 c.has-then-has.result next_is round_is index_is alike.0 alike.1 left_is
+    stands_by (shown c.args.self.now) c.args.work.now w.op w.ty w.left w.right w.field-0-4 c.has-then-has.result next_is round_is
+    index_is alike.0 alike.1 left_is
     _ _ refl c.right.ensures c.has-then-has.ensures

@@ -22,7 +22,8 @@ of-requires-clause-checked c = unbroken (broken c.args.sig c.args.n) c.in_ok-che
 pub returns-in_err-plans-clause-refusal : goal.returns-in_err-plans-clause-refusal
 returns-in_err-plans-clause-refusal c =
     let p = err_from_is_err_and c.from_residual-in_err-plans.result c.from_residual-in_err-plans.ensures.1 in
-    accepted (broken c.args.sig c.args.n) c.from_residual-in_err-plans.result (unbroken (broken c.args.sig c.args.n) c.in_ok-check.field-0 c.in_ok-check.ensures)
+    accepted (broken c.args.sig c.args.n) c.from_residual-in_err-plans.result
+    (unbroken (broken c.args.sig c.args.n) c.in_ok-check.field-0 c.in_ok-check.ensures)
     (rw (p.1, p.2) c.in_err-plans.ensures.refusal)
 
 pub invariant_of-result : goal.invariant_of-result

@@ -5,7 +5,9 @@ use Rattle.coll_lists.proofs.WellLinked.{IsWellLinked-shown}
 use Rattle.coll_lists.proofs.links.Links.columns.Goals as goal
 
 pub returns-clause-lawful : goal.returns-clause-lawful
-returns-clause-lawful c = lawful-seen c.self.inside.columns.next.items c.self.inside.columns.prev.items c.self.inside.columns.list.items c.self.inside.columns.len.items _ c.args.self.now c.self.invariant c.self.view_is
+returns-clause-lawful c =
+    lawful-seen c.self.inside.columns.next.items c.self.inside.columns.prev.items c.self.inside.columns.list.items
+    c.self.inside.columns.len.items _ c.args.self.now c.self.invariant c.self.view_is
 
 pub returns-clause-well_linked : goal.returns-clause-well_linked
 returns-clause-well_linked c =

@@ -4,9 +4,12 @@ use Rattle.coll_lists.proofs.links.Links.prev.Goals as goal
 
 pub index-requires : goal.index-requires
 index-requires c =
-    let low : c.args.node < length c.self.inside.columns.list.items = node_in c.self.inside.columns.next.items c.self.inside.columns.prev.items c.self.inside.columns.list.items c.self.inside.columns.len.items _ c.args.self.now c.self.invariant c.self.view_is c.args.node c.requires in
+    let low : c.args.node < length c.self.inside.columns.list.items =
+    node_in c.self.inside.columns.next.items c.self.inside.columns.prev.items c.self.inside.columns.list.items
+    c.self.inside.columns.len.items _ c.args.self.now c.self.invariant c.self.view_is c.args.node c.requires in
     omega (arith, c.self.invariant.prev_len)
 
 pub returns : goal.returns
 returns c =
-    reads_prev c.self.inside.columns.next.items c.self.inside.columns.prev.items c.self.inside.columns.list.items c.self.inside.columns.len.items _ c.args.self.now c.self.invariant c.self.view_is c.args.node c.requires _ _ c.index.ensures c.node_at.ensures
+    reads_prev c.self.inside.columns.next.items c.self.inside.columns.prev.items c.self.inside.columns.list.items
+    c.self.inside.columns.len.items _ c.args.self.now c.self.invariant c.self.view_is c.args.node c.requires _ _ c.index.ensures c.node_at.ensures

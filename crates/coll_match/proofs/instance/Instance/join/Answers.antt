@@ -6,17 +6,23 @@ use Rattle.coll_match.proofs.instance.Instance.join.Goals as goal
 
 pub returns-clause-given : goal.returns-clause-given
 returns-clause-given c =
-    parts_set contribution_of c.self.inside.shares.items c.from.result (record { given = Some c.args.bytes; slot = c.index_mut.result.now.slot; mailbox = c.index_mut.result.now.mailbox }) (low_share _ _ _ _ c.self.view_is c.requires c.from.ensures)
+    parts_set contribution_of c.self.inside.shares.items c.from.result
+    (record { given = Some c.args.bytes; slot = c.index_mut.result.now.slot; mailbox = c.index_mut.result.now.mailbox })
+    (low_share _ _ _ _ c.self.view_is c.requires c.from.ensures)
     ∙ (λ z. put (given_in (c.self.view_is z)) (c.from.ensures z) (Some c.args.bytes))
 
 pub returns-clause-seats : goal.returns-clause-seats
 returns-clause-seats c =
-    parts_kept slot_of c.self.inside.shares.items c.from.result (record { given = Some c.args.bytes; slot = c.index_mut.result.now.slot; mailbox = c.index_mut.result.now.mailbox }) (low_share _ _ _ _ c.self.view_is c.requires c.from.ensures)
+    parts_kept slot_of c.self.inside.shares.items c.from.result
+    (record { given = Some c.args.bytes; slot = c.index_mut.result.now.slot; mailbox = c.index_mut.result.now.mailbox })
+    (low_share _ _ _ _ c.self.view_is c.requires c.from.ensures)
     c.index_mut.result.now c.index_mut.ensures.value refl
     ∙ ap seat_in c.self.view_is
 
 pub returns-clause-mail : goal.returns-clause-mail
 returns-clause-mail c =
-    parts_kept sent_of c.self.inside.shares.items c.from.result (record { given = Some c.args.bytes; slot = c.index_mut.result.now.slot; mailbox = c.index_mut.result.now.mailbox }) (low_share _ _ _ _ c.self.view_is c.requires c.from.ensures)
+    parts_kept sent_of c.self.inside.shares.items c.from.result
+    (record { given = Some c.args.bytes; slot = c.index_mut.result.now.slot; mailbox = c.index_mut.result.now.mailbox })
+    (low_share _ _ _ _ c.self.view_is c.requires c.from.ensures)
     c.index_mut.result.now c.index_mut.ensures.value refl
     ∙ ap mail_in c.self.view_is

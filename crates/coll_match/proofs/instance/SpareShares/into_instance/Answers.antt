@@ -7,10 +7,16 @@ use Rattle.coll_match.proofs.Shares.{empty_part}
 use Rattle.coll_match.proofs.instance.SpareShares.into_instance.Goals as goal
 
 pub returns-clause-given : goal.returns-clause-given
-returns-clause-given c = λ z m. (ap (λ (shares : List Share). contribution_of (slice_get (map part_of shares) m)) c.args.self.empty ∙ empty_part contribution_of None refl refl (length c.args.self.shares.items) m) z
+returns-clause-given c =
+    λ z m. (ap (λ (shares : List Share). contribution_of (slice_get (map part_of shares) m)) c.args.self.empty
+    ∙ empty_part contribution_of None refl refl (length c.args.self.shares.items) m) z
 
 pub returns-clause-seats : goal.returns-clause-seats
-returns-clause-seats c = λ z m. (ap (λ (shares : List Share). slot_of (slice_get (map part_of shares) m)) c.args.self.empty ∙ empty_part slot_of None refl refl (length c.args.self.shares.items) m) z
+returns-clause-seats c =
+    λ z m. (ap (λ (shares : List Share). slot_of (slice_get (map part_of shares) m)) c.args.self.empty
+    ∙ empty_part slot_of None refl refl (length c.args.self.shares.items) m) z
 
 pub returns-clause-mail : goal.returns-clause-mail
-returns-clause-mail c = λ z m. (ap (λ (shares : List Share). sent_of (slice_get (map part_of shares) m)) c.args.self.empty ∙ empty_part sent_of (λ to round. None) refl refl (length c.args.self.shares.items) m) z
+returns-clause-mail c =
+    λ z m. (ap (λ (shares : List Share). sent_of (slice_get (map part_of shares) m)) c.args.self.empty
+    ∙ empty_part sent_of (λ to round. None) refl refl (length c.args.self.shares.items) m) z

@@ -10,7 +10,8 @@ pub invariant_of-self-2 : goal.invariant_of-self-2
 invariant_of-self-2 c =
     let absent : lookup (same_envelope c.args.envelope) (messages_of c.self.inside.messages.items) ≡ None =
     subst (λ messages. lookup (same_envelope c.args.envelope) messages ≡ None) (sym c.self.view_is) c.requires in
-    subst Apart (sym c.in_default.ensures.items) (pushed_apart c.self.inside.messages.items (record { envelope = c.args.envelope; bytes = c.args.bytes }) c.self.invariant absent)
+    subst Apart (sym c.in_default.ensures.items)
+    (pushed_apart c.self.inside.messages.items (record { envelope = c.args.envelope; bytes = c.args.bytes }) c.self.invariant absent)
 
 pub returns-clause-sent : goal.returns-clause-sent
 returns-clause-sent c =

@@ -8,7 +8,8 @@ use Rattle.coll_match.proofs.mailbox.Mailbox.take.Goals as goal
 
 absent : (c : goal.After-from_residual) → lookup (same_envelope c.args.envelope) c.args.self.now ≡ None
 absent c = subst (λ messages. lookup (same_envelope c.args.envelope) messages ≡ None) c.self.view_is
-    (none_placed c.args.envelope c.self.inside.messages.items (sym c.in_err-place.was ∙ c.place_of.ensures ∙ ap (position (is_it c.args.envelope)) c.deref.ensures.value))
+    (none_placed c.args.envelope c.self.inside.messages.items
+    (sym c.in_err-place.was ∙ c.place_of.ensures ∙ ap (position (is_it c.args.envelope)) c.deref.ensures.value))
 
 pub returns-in_err-place-clause-taken : goal.returns-in_err-place-clause-taken
 returns-in_err-place-clause-taken c = c.from_residual.ensures ∙ sym (absent c)
@@ -21,7 +22,9 @@ found c = placed c.args.envelope c.self.inside.messages.items c.in_ok-place.plac
     (sym c.in_ok-place.was ∙ c.place_of.ensures ∙ ap (position (is_it c.args.envelope)) c.deref.ensures.value)
 
 pub invariant_of-self : goal.invariant_of-self
-invariant_of-self c = subst Apart (sym c.remove-bytes.ensures.items) (removed_apart c.args.envelope c.self.inside.messages.items c.in_ok-place.place c.remove-bytes.result c.self.invariant (found c))
+invariant_of-self c =
+    subst Apart (sym c.remove-bytes.ensures.items)
+    (removed_apart c.args.envelope c.self.inside.messages.items c.in_ok-place.place c.remove-bytes.result c.self.invariant (found c))
 
 pub returns-clause-taken : goal.returns-clause-taken
 returns-clause-taken c =

@@ -5,4 +5,6 @@ use Rattle.coll_match.proofs.Standing.{stands}
 use Rattle.coll_match.proofs.matches.Matches.ready.Goals as goal
 
 pub returns-in-Some : goal.returns-in-Some
-returns-in-Some c = c.is_ready.ensures ∙ ap (λ o. is_some (mail_of o c.args.from c.args.to c.args.round)) (sym (stands c.args.self.now c.args.self.now refl c.args.key c.in-Some.instance.now c.in-Some.ensures 0))
+returns-in-Some c =
+    c.is_ready.ensures ∙ ap (λ o. is_some (mail_of o c.args.from c.args.to c.args.round))
+    (sym (stands c.args.self.now c.args.self.now refl c.args.key c.in-Some.instance.now c.in-Some.ensures 0))

@@ -18,8 +18,12 @@ absent c = ap (λ t. is_some (standing t c.args.key)) (c.self.view_is ∙ c.make
 
 pub returns-in_ok-insert-clause-room : goal.returns-in_ok-insert-clause-room
 returns-in_ok-insert-clause-room c = ap look_ups (entered c) ∙ (λ z. record {
-  members = members_new _ _ _ (c.self.view_is ∙ c.make.ensures.same) c.args.key c.in_ok-instance.instance (absent c) c.in_ok-insert.ensures.updates.0 c.args.n c.in_ok-instance.ensures.members z;
-  given = given_new _ _ _ (c.self.view_is ∙ c.make.ensures.same) c.args.key c.in_ok-instance.instance (absent c) c.in_ok-insert.ensures.updates.0 c.in_ok-instance.ensures.given z;
-  seats = seats_new _ _ _ (c.self.view_is ∙ c.make.ensures.same) c.args.key c.in_ok-instance.instance (absent c) c.in_ok-insert.ensures.updates.0 c.in_ok-instance.ensures.seats z;
-  mail = mail_new _ _ _ (c.self.view_is ∙ c.make.ensures.same) c.args.key c.in_ok-instance.instance (absent c) c.in_ok-insert.ensures.updates.0 c.in_ok-instance.ensures.mail z;
+  members = members_new _ _ _ (c.self.view_is ∙ c.make.ensures.same) c.args.key c.in_ok-instance.instance (absent c)
+      c.in_ok-insert.ensures.updates.0 c.args.n c.in_ok-instance.ensures.members z;
+  given = given_new _ _ _ (c.self.view_is ∙ c.make.ensures.same) c.args.key c.in_ok-instance.instance (absent c)
+      c.in_ok-insert.ensures.updates.0 c.in_ok-instance.ensures.given z;
+  seats = seats_new _ _ _ (c.self.view_is ∙ c.make.ensures.same) c.args.key c.in_ok-instance.instance (absent c)
+      c.in_ok-insert.ensures.updates.0 c.in_ok-instance.ensures.seats z;
+  mail = mail_new _ _ _ (c.self.view_is ∙ c.make.ensures.same) c.args.key c.in_ok-instance.instance (absent c)
+      c.in_ok-insert.ensures.updates.0 c.in_ok-instance.ensures.mail z;
 })

@@ -4,4 +4,5 @@ use Rattle.coll_match.proofs.Standing.{stands}
 use Rattle.coll_match.proofs.matches.Matches.seated.Goals as goal
 
 pub returns : goal.returns
-returns c = c.seated.ensures ∙ ap (λ o. seats_of o c.args.member) (sym (stands _ _ c.self.view_is c.args.key c.in_ok-get.field-0.now c.in_ok-get.ensures.value c.args.member))
+returns c = c.seated.ensures
+    ∙ ap (λ o. seats_of o c.args.member) (sym (stands _ _ c.self.view_is c.args.key c.in_ok-get.field-0.now c.in_ok-get.ensures.value c.args.member))

@@ -17,8 +17,10 @@ pub loop-step-preserved : goal.loop-step-preserved
 loop-step-preserved c =
     let e : c.pow.result ≡ 2 ^ c.loop-step.step = c.pow.ensures ∙ ap (λ k. 2 ^ k) c.from-in-loop-step.ensures in
     one_step (λ k m. rounds_of (bruck_rounds c.args.self.len c.args.self.n k m) c.args.r) (λ k. bruck_step c.args.self.len c.args.self.n (2 ^ k) c.args.r ∷ [])
-    (λ k m. refl) c.loop-step.step c.depth_of-steps.result c.loop-step.rounds.items c.push.new.self.items (rounds_of (bruck_rounds c.args.self.len c.args.self.n 0 c.depth_of-steps.result) c.args.r) c.loop-step-test.true c.loop-step.invariant
-    (c.in_ok-push.ensures.items ∙ ap (λ x. c.loop-step.rounds.items ++ x ∷ []) (c.in_ok-round.ensures.ok ∙ ap (λ s. bruck_step c.args.self.len c.args.self.n s c.args.r) e))
+    (λ k m. refl) c.loop-step.step c.depth_of-steps.result c.loop-step.rounds.items c.push.new.self.items
+    (rounds_of (bruck_rounds c.args.self.len c.args.self.n 0 c.depth_of-steps.result) c.args.r) c.loop-step-test.true c.loop-step.invariant
+    (c.in_ok-push.ensures.items
+    ∙ ap (λ x. c.loop-step.rounds.items ++ x ∷ []) (c.in_ok-round.ensures.ok ∙ ap (λ s. bruck_step c.args.self.len c.args.self.n s c.args.r) e))
 
 pub returns-clause-ok : goal.returns-clause-ok
 returns-clause-ok c =

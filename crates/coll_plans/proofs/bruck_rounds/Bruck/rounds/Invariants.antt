@@ -5,4 +5,5 @@ use Rattle.coll_plans.proofs.bruck_rounds.Bruck.rounds.Given as goal
 
 -- the rounds so far with those that remain are all
 abbrev pub invariant-loop-step : goal.invariant-loop-step
-invariant-loop-step l = l.rounds.items ++ rounds_of (bruck_rounds l.self.len l.self.n l.step (l.steps - l.step)) l.r ≡ rounds_of (bruck_rounds l.self.len l.self.n 0 l.steps) l.r
+invariant-loop-step l =
+    l.rounds.items ++ rounds_of (bruck_rounds l.self.len l.self.n l.step (l.steps - l.step)) l.r ≡ rounds_of (bruck_rounds l.self.len l.self.n 0 l.steps) l.r

@@ -9,10 +9,12 @@ use Rattle.coll_plans.proofs.direct_exchange.Exchange.push_sends.Goals.{then-cro
 pub loop-p-preserved : goal.loop-p-preserved
 loop-p-preserved c = elim c.if-crosses.branch [
   | then-crosses+in_ok-push w ↦
-      step_taken (crosses c.args.self.pattern c.args.r) (λ m. Send m (place c.args.self.from m)) c.loop-p.p c.args.self.n c.loop-p.round _ c.loop-p-test.true c.loop-p.invariant
+      step_taken (crosses c.args.self.pattern c.args.r) (λ m. Send m (place c.args.self.from m)) c.loop-p.p c.args.self.n
+      c.loop-p.round _ c.loop-p-test.true c.loop-p.invariant
       c.if-crosses.round (sym c.crosses.ensures ∙ w.if-crosses.true)
       (w.round-is ∙ (w.in_ok-push.ensures.ok ∙ ap (λ g. c.loop-p.round ++ Send c.loop-p.p g ∷ []) w.place.ensures))
   | else-crosses w ↦
-      step_passed (crosses c.args.self.pattern c.args.r) (λ m. Send m (place c.args.self.from m)) c.loop-p.p c.args.self.n c.loop-p.round _ c.loop-p-test.true c.loop-p.invariant
+      step_passed (crosses c.args.self.pattern c.args.r) (λ m. Send m (place c.args.self.from m)) c.loop-p.p c.args.self.n
+      c.loop-p.round _ c.loop-p-test.true c.loop-p.invariant
       c.if-crosses.round (sym c.crosses.ensures ∙ w.if-crosses.false) w.round-is
 ]

@@ -18,9 +18,12 @@ loop-step-preserved c =
     c.in_ok-shift.ensures.ok ∙ ap (λ s. shift c.args.self.len c.args.self.n s c.args.r) e in
     let second : c.in_ok-join.join ≡ joins c.args.self.exclusive c.args.self.op c.args.self.ty c.args.self.len (2 ^ c.loop-step.step) c.args.r =
     c.in_ok-join.ensures.ok ∙ ap (λ s. joins c.args.self.exclusive c.args.self.op c.args.self.ty c.args.self.len s c.args.r) e in
-    one_step (λ k m. rounds_of (doubling c.args.self.len c.args.self.n (joins c.args.self.exclusive c.args.self.op c.args.self.ty c.args.self.len) k m) c.args.r)
-    (λ k. shift c.args.self.len c.args.self.n (2 ^ k) c.args.r ∷ joins c.args.self.exclusive c.args.self.op c.args.self.ty c.args.self.len (2 ^ k) c.args.r ∷ [])
-    (λ k m. refl) c.loop-step.step c.depth_of-steps.result c.loop-step.rounds.items c.push-in-loop-step.new.self.items _ c.loop-step-test.true c.loop-step.invariant
+    one_step (λ k m. rounds_of
+    (doubling c.args.self.len c.args.self.n (joins c.args.self.exclusive c.args.self.op c.args.self.ty c.args.self.len) k m) c.args.r)
+    (λ k. shift c.args.self.len c.args.self.n (2 ^ k) c.args.r
+    ∷ joins c.args.self.exclusive c.args.self.op c.args.self.ty c.args.self.len (2 ^ k) c.args.r ∷ [])
+    (λ k m. refl) c.loop-step.step c.depth_of-steps.result c.loop-step.rounds.items c.push-in-loop-step.new.self.items _
+    c.loop-step-test.true c.loop-step.invariant
     (c.in_ok-push-2.ensures.items
     ∙ (ap (λ xs. xs ++ c.in_ok-join.join ∷ []) c.in_ok-push.ensures.items
     ∙ (append_assoc c.loop-step.rounds.items (c.in_ok-shift.shift ∷ []) (c.in_ok-join.join ∷ [])

@@ -33,8 +33,10 @@ loop-step-preserved c =
     ∙ (ap (λ q. joins_by c.args.self.op c.args.self.ty c.args.self.len q (2 ^ c.loop-step.step) c.new-part.result) place
     ∙ ap (joins_by c.args.self.op c.args.self.ty c.args.self.len (corner c.args.self.cube.extra c.args.r) (2 ^ c.loop-step.step)) part)) in
     one_step (λ k m. rounds_of (hypercube_rounds c.args.self.op c.args.self.ty c.args.self.len c.args.self.cube.extra k m) c.args.r)
-    (λ k. exchange_at c.args.self.len c.args.self.cube.extra (2 ^ k) c.args.r ∷ exchange_joins c.args.self.op c.args.self.ty c.args.self.len c.args.self.cube.extra (2 ^ k) c.args.r ∷ [])
-    (λ k m. refl) c.loop-step.step c.args.self.cube.dimension c.loop-step.rounds.items c.push-in-loop-step.new.self.items _ c.loop-step-test.true c.loop-step.invariant
+    (λ k. exchange_at c.args.self.len c.args.self.cube.extra (2 ^ k) c.args.r
+    ∷ exchange_joins c.args.self.op c.args.self.ty c.args.self.len c.args.self.cube.extra (2 ^ k) c.args.r ∷ [])
+    (λ k m. refl) c.loop-step.step c.args.self.cube.dimension c.loop-step.rounds.items c.push-in-loop-step.new.self.items _
+    c.loop-step-test.true c.loop-step.invariant
     (c.in_ok-push-2.ensures.items
     ∙ (ap (λ xs. xs ++ c.in_ok-join.join ∷ []) c.in_ok-push.ensures.items
     ∙ (append_assoc c.loop-step.rounds.items (c.in_ok-exchange.exchange ∷ []) (c.in_ok-join.join ∷ [])

@@ -13,12 +13,26 @@ returns-clause-ok c =
     c.in_ok-join.ensures.ok ∙ ap (fold_joins c.args.self.op c.args.self.ty c.args.self.len) c.new-part.ensures in
     let last : c.in_ok-tell.tell ≡ tell c.args.self.len c.args.self.cube.extra c.args.r =
     c.in_ok-tell.ensures.ok ∙ ap (tells c.args.self.len c.args.r) c.new-part.ensures in
-    let one : c.push.new.self.items ≡ c.in_ok-give.give ∷ [] = c.in_ok-push.ensures.items ∙ ap (λ xs. xs ++ c.in_ok-give.give ∷ []) c.in_ok-rounds.ensures.items in
-    let two : c.push-2.new.self.items ≡ c.in_ok-give.give ∷ c.in_ok-join.join ∷ [] = c.in_ok-push-2.ensures.items ∙ ap (λ xs. xs ++ c.in_ok-join.join ∷ []) one in
+    let one : c.push.new.self.items ≡ c.in_ok-give.give ∷ [] =
+    c.in_ok-push.ensures.items ∙ ap (λ xs. xs ++ c.in_ok-give.give ∷ []) c.in_ok-rounds.ensures.items in
+    let two : c.push-2.new.self.items ≡ c.in_ok-give.give ∷ c.in_ok-join.join ∷ [] =
+    c.in_ok-push-2.ensures.items ∙ ap (λ xs. xs ++ c.in_ok-join.join ∷ []) one in
     c.in_ok-push-3.ensures.items
-    ∙ (ap (λ xs. xs ++ c.in_ok-tell.tell ∷ []) (c.in_ok-push_exchanges.ensures.ok ∙ ap (λ xs. xs ++ rounds_of (hypercube_rounds c.args.self.op c.args.self.ty c.args.self.len c.args.self.cube.extra 0 c.args.self.cube.dimension) c.args.r) two)
-    ∙ (ap (λ x. x ∷ c.in_ok-join.join ∷ (rounds_of (hypercube_rounds c.args.self.op c.args.self.ty c.args.self.len c.args.self.cube.extra 0 c.args.self.cube.dimension) c.args.r ++ c.in_ok-tell.tell ∷ [])) first
-    ∙ (ap (λ x. give c.args.self.len c.args.self.cube.extra c.args.r ∷ x ∷ (rounds_of (hypercube_rounds c.args.self.op c.args.self.ty c.args.self.len c.args.self.cube.extra 0 c.args.self.cube.dimension) c.args.r ++ c.in_ok-tell.tell ∷ [])) second
-    ∙ (ap (λ x. give c.args.self.len c.args.self.cube.extra c.args.r ∷ pair_up c.args.self.op c.args.self.ty c.args.self.len c.args.self.cube.extra c.args.r ∷ (rounds_of (hypercube_rounds c.args.self.op c.args.self.ty c.args.self.len c.args.self.cube.extra 0 c.args.self.cube.dimension) c.args.r ++ x ∷ [])) last
-    ∙ ap (λ xs. give c.args.self.len c.args.self.cube.extra c.args.r ∷ pair_up c.args.self.op c.args.self.ty c.args.self.len c.args.self.cube.extra c.args.r ∷ xs)
-    (sym (rounds-append (hypercube_rounds c.args.self.op c.args.self.ty c.args.self.len c.args.self.cube.extra 0 c.args.self.cube.dimension) (tell c.args.self.len c.args.self.cube.extra ∷ []) c.args.r))))))
+    ∙ (ap (λ xs. xs ++ c.in_ok-tell.tell ∷ [])
+    (c.in_ok-push_exchanges.ensures.ok
+    ∙ ap (λ xs. xs ++ rounds_of (hypercube_rounds c.args.self.op c.args.self.ty c.args.self.len c.args.self.cube.extra 0
+    c.args.self.cube.dimension) c.args.r) two)
+    ∙ (ap (λ x. x ∷ c.in_ok-join.join
+    ∷ (rounds_of (hypercube_rounds c.args.self.op c.args.self.ty c.args.self.len c.args.self.cube.extra 0 c.args.self.cube.dimension) c.args.r
+    ++ c.in_ok-tell.tell ∷ [])) first
+    ∙ (ap (λ x. give c.args.self.len c.args.self.cube.extra c.args.r ∷ x
+    ∷ (rounds_of (hypercube_rounds c.args.self.op c.args.self.ty c.args.self.len c.args.self.cube.extra 0 c.args.self.cube.dimension) c.args.r
+    ++ c.in_ok-tell.tell ∷ [])) second
+    ∙ (ap (λ x. give c.args.self.len c.args.self.cube.extra c.args.r
+    ∷ pair_up c.args.self.op c.args.self.ty c.args.self.len c.args.self.cube.extra c.args.r
+    ∷ (rounds_of (hypercube_rounds c.args.self.op c.args.self.ty c.args.self.len c.args.self.cube.extra 0 c.args.self.cube.dimension) c.args.r ++ x ∷ []))
+    last
+    ∙ ap (λ xs. give c.args.self.len c.args.self.cube.extra c.args.r
+    ∷ pair_up c.args.self.op c.args.self.ty c.args.self.len c.args.self.cube.extra c.args.r ∷ xs)
+    (sym (rounds-append (hypercube_rounds c.args.self.op c.args.self.ty c.args.self.len c.args.self.cube.extra 0
+    c.args.self.cube.dimension) (tell c.args.self.len c.args.self.cube.extra ∷ []) c.args.r))))))

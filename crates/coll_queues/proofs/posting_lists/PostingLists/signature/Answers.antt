@@ -9,5 +9,6 @@ use Rattle.coll_queues.proofs.posting_lists.PostingLists.signature.Goals as goal
 
 pub returns : goal.returns
 returns c =
-    let read : option_map (λ (sig : Bor Signature). sig.now) c.get.result ≡ slice_get c.self.inside.signatures.items c.args.place = grind (arith, common_steps, gets) in
+    let read : option_map (λ (sig : Bor Signature). sig.now) c.get.result ≡ slice_get c.self.inside.signatures.items c.args.place =
+    grind (arith, common_steps, gets) in
     read ∙ sym (signed_front _ _ _ c.self.inside.signatures.room c.self.invariant c.args.place) ∙ ap (λ v. signed_in v c.args.place) c.self.view_is

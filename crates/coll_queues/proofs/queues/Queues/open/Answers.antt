@@ -17,7 +17,8 @@ loop-group-preserved c =
     let items : c.push.new.self.items ≡ c.loop-group.comms.items ++ c.in_ok-new.field-0 ∷ [] = c.in_ok-push.ensures.items in
     record {
       groups = ap (λ (xs : List Lists). map (λ m. m.group) xs) items ∙ map-append (λ (m : Lists). m.group) c.loop-group.comms.items (c.in_ok-new.field-0 ∷ [])
-          ∙ (λ z. c.loop-group.invariant.groups z ++ c.in_ok-new.ensures.group z ∷ []) ∙ sym (map-append (λ (g : Vec ℕ Global). g.items) c.loop-group.yielded (c.in-Some.group ∷ []));
+          ∙ (λ z. c.loop-group.invariant.groups z ++ c.in_ok-new.ensures.group z ∷ [])
+          ∙ sym (map-append (λ (g : Vec ℕ Global). g.items) c.loop-group.yielded (c.in-Some.group ∷ []));
       agreed = subst (λ xs. AreAgreed xs) (sym items) (agreed_push _ _ c.loop-group.invariant.agreed c.in_ok-new.ensures.agreed);
       unposted = subst (λ xs. Unposted xs) (sym items) (unposted_push _ _ c.loop-group.invariant.unposted c.in_ok-new.ensures.empty);
     }

@@ -8,7 +8,9 @@ use Rattle.coll_sched.specs.declared.action.Action.TheVariants.{Copy, Combine, R
 use Rattle.coll_sched.specs.Actions.{AllApart, writes}
 use Rattle.coll_sched.proofs.action.Action.spares.Goals as goal
 
-one_written : (a : Action) (into : Region) → ((x : Region) × (a ≡ Copy x into)) ⊎ (((op : Op) × (ty : Datatype) × (l : Region) × (r : Region) × (a ≡ Combine op ty l r into)) ⊎ ((x : ℕ) × (a ≡ Recv x into))) → writes a ≡ into ∷ []
+one_written : (a : Action) (into : Region)
+    → ((x : Region) × (a ≡ Copy x into))
+    ⊎ (((op : Op) × (ty : Datatype) × (l : Region) × (r : Region) × (a ≡ Combine op ty l r into)) ⊎ ((x : ℕ) × (a ≡ Recv x into))) → writes a ≡ into ∷ []
 one_written a into (inl h) = ap writes h.1
 one_written a into (inr (inl h)) = ap writes h.4
 one_written a into (inr (inr h)) = ap writes h.1

@@ -18,6 +18,7 @@ loop-step-preserved c =
     c.in_ok-round.ensures.ok
     ∙ (ap (λ v. hop c.args.self.len c.args.self.n c.args.self.root v c.pow.result (bcast_step c.args.self.n v c.pow.result)) c.from_root-number.ensures.number
     ∙ ap (λ s. bcast_tree_at c.args.self.len c.args.self.n c.args.self.root s c.args.r) e) in
-    one_step (λ k m. rounds_of (bcast_tree_rounds c.args.self.len c.args.self.n c.args.self.root k m) c.args.r) (λ k. bcast_tree_at c.args.self.len c.args.self.n c.args.self.root (2 ^ k) c.args.r ∷ [])
+    one_step (λ k m. rounds_of (bcast_tree_rounds c.args.self.len c.args.self.n c.args.self.root k m) c.args.r)
+    (λ k. bcast_tree_at c.args.self.len c.args.self.n c.args.self.root (2 ^ k) c.args.r ∷ [])
     (λ k m. refl) c.loop-step.step c.depth_of-steps.result c.loop-step.rounds.items c.push.new.self.items _ c.loop-step-test.true c.loop-step.invariant
     (c.in_ok-push.ensures.items ∙ ap (λ x. c.loop-step.rounds.items ++ x ∷ []) is)

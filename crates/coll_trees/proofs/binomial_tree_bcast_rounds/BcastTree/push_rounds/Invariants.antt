@@ -5,4 +5,6 @@ use Rattle.coll_trees.proofs.binomial_tree_bcast_rounds.BcastTree.push_rounds.Gi
 
 -- the rounds so far with those that remain are all
 abbrev pub invariant-loop-step : goal.invariant-loop-step
-invariant-loop-step l = l.rounds.items ++ rounds_of (bcast_tree_rounds l.self.len l.self.n l.self.root l.step (l.steps - l.step)) l.r ≡ l.initial.rounds.items ++ rounds_of (bcast_tree_rounds l.self.len l.self.n l.self.root 0 l.steps) l.r
+invariant-loop-step l =
+    l.rounds.items ++ rounds_of (bcast_tree_rounds l.self.len l.self.n l.self.root l.step (l.steps - l.step)) l.r
+    ≡ l.initial.rounds.items ++ rounds_of (bcast_tree_rounds l.self.len l.self.n l.self.root 0 l.steps) l.r

@@ -27,7 +27,8 @@ loop-step-preserved c =
     c.in_ok-combines.ensures.ok ∙ ap (combines c.args.self.op c.args.self.ty c.args.self.len) part in
     one_step (λ k m. rounds_of (reduce_tree_rounds c.args.self.op c.args.self.ty c.args.self.len c.args.self.n k m) c.args.r)
     (λ k. move_at c.args.self.len c.args.self.n (2 ^ k) c.args.r ∷ combine_at c.args.self.op c.args.self.ty c.args.self.len c.args.self.n (2 ^ k) c.args.r ∷ [])
-    (λ k m. refl) c.loop-step.step c.depth_of-steps.result c.loop-step.rounds.items c.push-in-loop-step.new.self.items _ c.loop-step-test.true c.loop-step.invariant
+    (λ k m. refl) c.loop-step.step c.depth_of-steps.result c.loop-step.rounds.items c.push-in-loop-step.new.self.items _
+    c.loop-step-test.true c.loop-step.invariant
     (c.in_ok-push-2.ensures.items
     ∙ (ap (λ xs. xs ++ c.in_ok-combines.combines ∷ []) c.in_ok-push.ensures.items
     ∙ (append_assoc c.loop-step.rounds.items (c.in_ok-moves.moves ∷ []) (c.in_ok-combines.combines ∷ [])

@@ -5,4 +5,6 @@ use Rattle.coll_trees.proofs.binomial_tree_reduce_rounds.ReduceTree.push_rounds.
 
 -- the rounds so far with those that remain are all
 abbrev pub invariant-loop-step : goal.invariant-loop-step
-invariant-loop-step l = l.rounds.items ++ rounds_of (reduce_tree_rounds l.self.op l.self.ty l.self.len l.self.n l.step (l.steps - l.step)) l.r ≡ l.initial.rounds.items ++ rounds_of (reduce_tree_rounds l.self.op l.self.ty l.self.len l.self.n 0 l.steps) l.r
+invariant-loop-step l =
+    l.rounds.items ++ rounds_of (reduce_tree_rounds l.self.op l.self.ty l.self.len l.self.n l.step (l.steps - l.step)) l.r
+    ≡ l.initial.rounds.items ++ rounds_of (reduce_tree_rounds l.self.op l.self.ty l.self.len l.self.n 0 l.steps) l.r
