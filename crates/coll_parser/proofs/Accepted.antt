@@ -1,5 +1,6 @@
 -- Lines that are accepted could have been said: the lines that say the same.
-use Rattle.std.proofs.Common.{◌≡◌, ℕ, ◌+◌, ◌<◌, ◌≤◌, Bool, true, false, cond, eqb, List, [], ◌∷◌, ◌++◌, length, map, Option, Some, None, Result, Ok, Err, refl, sym, subst, arith}
+use Rattle.std.proofs.Common.{◌≡◌, ℕ, ◌+◌, ◌<◌, ◌≤◌, Bool, true, false, cond, eqb, List, [], ◌∷◌, ◌++◌, length, map, Option, Some, None, Result, Ok}
+use Rattle.std.proofs.Common.{Err, refl, sym, subst, arith}
 use Rattle.std.specs.Prelude.{codes, decimal, is_none, ok_or, unwrap_or, slice_index, nat_lt}
 use Rattle.std.specs.List.{range_with_len}
 use Rattle.std.specs.Str.{bytes_eq}
@@ -32,7 +33,8 @@ skips number h = ([], skipped_line [] tt tt)
 ranks-told : (number : ℕ) (h : History) → h.ranks ≡ None → (words : List (List ℕ)) (a : History × List (List ℕ)) → ranks h words ≡ Ok a → CanTell number h a.0
 unfolding ranks
 ranks-told number h none words a e =
-    let first = bind-is (next (λ w. ok_or (number_within 1 65 w) BadNumber)) (λ n. end >>= λ ended. give (record h { ranks = Some n; groups = range_with_len 0 n ∷ [] })) words a e in
+    let first = bind-is (next (λ w. ok_or (number_within 1 65 w) BadNumber))
+    (λ n. end >>= λ ended. give (record h { ranks = Some n; groups = range_with_len 0 n ∷ [] })) words a e in
     let n = first.0.0 in
     let second = bind-is end (λ ended. give (record h { ranks = Some n; groups = range_with_len 0 n ∷ [] })) first.0.1 a first.2 in
     let same : record h { ranks = Some n; groups = range_with_len 0 n ∷ [] } ≡ a.0 = cc in
@@ -40,11 +42,16 @@ ranks-told number h none words a e =
     let within = number-within 1 65 BadNumber read.0 n read.1 in
     subst (CanTell number h) same (codes "ranks" ∷ decimal n ∷ [], ranks_line n none within.0 (omega (arith, within.1)))
 
-comm-told : (number n : ℕ) (h : History) → h.ranks ≡ Some n → n ≤ 64 → (words : List (List ℕ)) (a : History × List (List ℕ)) → comm n h words ≡ Ok a → CanTell number h a.0
+comm-told : (number n : ℕ) (h : History) → h.ranks ≡ Some n → n ≤ 64 → (words : List (List ℕ)) (a : History × List (List ℕ))
+    → comm n h words ≡ Ok a → CanTell number h a.0
 unfolding comm
 comm-told number n h known_ranks few words a e =
-    let first = bind-is (must (is_none h.opened) OutOfPlace) (λ early. must (nat_lt (length h.groups) 16) BadCommunicator >>= λ room. numbers (rank_in n) BadRank >>= λ group. give (record h { groups = h.groups ++ group ∷ [] })) words a e in
-    let second = bind-is (must (nat_lt (length h.groups) 16) BadCommunicator) (λ room. numbers (rank_in n) BadRank >>= λ group. give (record h { groups = h.groups ++ group ∷ [] })) first.0.1 a first.2 in
+    let first = bind-is (must (is_none h.opened) OutOfPlace)
+    (λ early. must (nat_lt (length h.groups) 16) BadCommunicator >>= λ room. numbers (rank_in n) BadRank >>= λ group. give
+    (record h { groups = h.groups ++ group ∷ [] })) words a e in
+    let second =
+    bind-is (must (nat_lt (length h.groups) 16) BadCommunicator)
+    (λ room. numbers (rank_in n) BadRank >>= λ group. give (record h { groups = h.groups ++ group ∷ [] })) first.0.1 a first.2 in
     let third = bind-is (numbers (rank_in n) BadRank) (λ group. give (record h { groups = h.groups ++ group ∷ [] })) second.0.1 a second.2 in
     let group = third.0.0 in
     let same : record h { groups = h.groups ++ group ∷ [] } ≡ a.0 = cc in
@@ -53,7 +60,8 @@ comm-told number n h known_ranks few words a e =
     let are = numbers-are (λ r. r < n) (rank_in n) BadRank (λ w r read. (number-within 0 n BadRank w r read).1) second.0.1 third.0 third.1 in
     subst (CanTell number h) same (codes "comm" ∷ map decimal group, comm_line n group known_ranks few closed room are.0 are.1 are.2)
 
-section-told : (number n : ℕ) (h : History) → h.ranks ≡ Some n → n ≤ 64 → (words : List (List ℕ)) (a : History × List (List ℕ)) → section n h words ≡ Ok a → CanTell number h a.0
+section-told : (number n : ℕ) (h : History) → h.ranks ≡ Some n → n ≤ 64 → (words : List (List ℕ)) (a : History × List (List ℕ))
+    → section n h words ≡ Ok a → CanTell number h a.0
 unfolding section
 section-told number n h known_ranks few words a e =
     let first = bind-is (next (rank_in n)) (λ rank. end >>= λ ended. give (record h { opened = Some rank })) words a e in
@@ -63,10 +71,12 @@ section-told number n h known_ranks few words a e =
     let read = next-is (rank_in n) words first.0 first.1 in
     subst (CanTell number h) same (codes "rank" ∷ decimal rank ∷ [], rank_line n rank known_ranks few (number-within 0 n BadRank read.0 rank read.1).1)
 
-command-told : (number n : ℕ) (h : History) → h.ranks ≡ Some n → IsSmall h → (w : List ℕ) (words : List (List ℕ)) (a : History × List (List ℕ)) → command number w h words ≡ Ok a → CanTell number h a.0
+command-told : (number n : ℕ) (h : History) → h.ranks ≡ Some n → IsSmall h
+    → (w : List ℕ) (words : List (List ℕ)) (a : History × List (List ℕ)) → command number w h words ≡ Ok a → CanTell number h a.0
 unfolding command
 command-told number n h known_ranks small w words a e =
-    let first = bind-is (known (command_of w) UnknownCommand) (λ read. known h.opened OutOfPlace >>= λ rank. read h rank >>= λ issued. give (issue number rank issued h)) words a e in
+    let first = bind-is (known (command_of w) UnknownCommand)
+    (λ read. known h.opened OutOfPlace >>= λ rank. read h rank >>= λ issued. give (issue number rank issued h)) words a e in
     let read = first.0.0 in
     let second = bind-is (known h.opened OutOfPlace) (λ rank. read h rank >>= λ issued. give (issue number rank issued h)) first.0.1 a first.2 in
     let rank = second.0.0 in
@@ -79,21 +89,25 @@ command-told number n h known_ranks small w words a e =
     subst (CanTell number h) same (can.0, command_line n rank issued can.0 known_ranks opened can.1)
 
 -- one of two steps was taken
-chosen : (number : ℕ) (h : History) (b : Bool) (step other : Reading History) (words : List (List ℕ)) (a : History × List (List ℕ)) → (step words ≡ Ok a → CanTell number h a.0) → (other words ≡ Ok a → CanTell number h a.0) → cond b step other words ≡ Ok a → CanTell number h a.0
+chosen : (number : ℕ) (h : History) (b : Bool) (step other : Reading History) (words : List (List ℕ)) (a : History × List (List ℕ))
+    → (step words ≡ Ok a → CanTell number h a.0) → (other words ≡ Ok a → CanTell number h a.0) → cond b step other words ≡ Ok a → CanTell number h a.0
 chosen number h true step other words a f g e = f e
 chosen number h false step other words a f g e = g e
 
-line_by-told : (o : Option ℕ) (number : ℕ) (w : List ℕ) (h : History) → h.ranks ≡ o → IsSmall h → (words : List (List ℕ)) (a : History × List (List ℕ)) → line_by o number w h words ≡ Ok a → CanTell number h a.0
+line_by-told : (o : Option ℕ) (number : ℕ) (w : List ℕ) (h : History) → h.ranks ≡ o → IsSmall h
+    → (words : List (List ℕ)) (a : History × List (List ℕ)) → line_by o number w h words ≡ Ok a → CanTell number h a.0
 line_by-told None number w h is small words a e =
     chosen number h (bytes_eq w (codes "ranks")) (ranks h) (fault MissingRanks) words a (ranks-told number h is words a) (λ f. absurd cc) e
 line_by-told (Some n) number w h is small words a e =
     let few : n ≤ 64 = subst (λ (o : Option ℕ). unwrap_or o 0 ≤ 64) is small.ranks in
     chosen number h (bytes_eq w (codes "ranks")) (fault OutOfPlace) _ words a (λ f. absurd cc)
     (chosen number h (bytes_eq w (codes "comm")) (comm n h) _ words a (comm-told number n h is few words a)
-    (chosen number h (bytes_eq w (codes "rank")) (section n h) (command number w h) words a (section-told number n h is few words a) (command-told number n h is small w words a)))
+    (chosen number h (bytes_eq w (codes "rank")) (section n h) (command number w h) words a
+    (section-told number n h is few words a) (command-told number n h is small w words a)))
     e
 
-read-told : (number : ℕ) (h last : History) (b : Bool) (r : Result (History × List (List ℕ)) Cause) → ((a : History × List (List ℕ)) → r ≡ Ok a → CanTell number h a.0) → cond b (Ok h) (and_then r (λ read. Ok read.0)) ≡ Ok last → CanTell number h last
+read-told : (number : ℕ) (h last : History) (b : Bool) (r : Result (History × List (List ℕ)) Cause)
+    → ((a : History × List (List ℕ)) → r ≡ Ok a → CanTell number h a.0) → cond b (Ok h) (and_then r (λ read. Ok read.0)) ≡ Ok last → CanTell number h last
 read-told number h last true r told e = let same : h ≡ last = cc in subst (CanTell number h) same (skips number h)
 read-told number h last false r told e =
     let read = then-is r (λ a. Ok a.0) last e in
@@ -108,7 +122,8 @@ line-told number h last (w ∷ words) small e =
 
 -- ---- a history stays small
 
-command-small : (number rank : ℕ) (c : Command) (h : History) (words : List (List ℕ)) → Writes h rank c words → IsSmall h → total h.commands + length (postings (c ∷ [])) ≤ 4096
+command-small : (number rank : ℕ) (c : Command) (h : History) (words : List (List ℕ)) → Writes h rank c words → IsSmall h
+    → total h.commands + length (postings (c ∷ [])) ≤ 4096
 command-small number rank (Post comm sig given) h words w small = omega (arith, w.0.room)
 command-small number rank (Init comm sig) h words w small = omega (arith, w.0.room)
 command-small number rank (Start q given) h words w small = omega (arith, small.commands)
@@ -136,7 +151,8 @@ record AreTold (number : ℕ) (h last : History) : Type 0 where
   pub lines : List (List (List ℕ))
   pub tells : Tells number h lines last
 
-judged-step : (number : ℕ) (h last : History) (bytes : List ℕ) (lines : List (List ℕ)) (r : Result History Cause) → line number h (words_of bytes) ≡ r → IsSmall h
+judged-step : (number : ℕ) (h last : History) (bytes : List ℕ) (lines : List (List ℕ)) (r : Result History Cause)
+    → line number h (words_of bytes) ≡ r → IsSmall h
     → ((next : History) → IsSmall next → judged (number + 1) next lines ≡ Ok last → AreTold (number + 1) next last)
     → and_then (in_line number r) (λ next. judged (number + 1) next lines) ≡ Ok last → AreTold number h last
 judged-step number h last bytes lines (Ok next) is small rest e =

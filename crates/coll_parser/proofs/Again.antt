@@ -1,5 +1,6 @@
 -- What is written is read again.
-use Rattle.std.proofs.Common.{◌≡◌, ℕ, suc, ◌+◌, ◌-◌, ◌^◌, ◌<◌, ◌≤◌, Bool, true, false, not, cond, eqb, ltb, leb, List, [], ◌∷◌, ◌++◌, length, take, drop, replicate, map, Option, Some, None, Ok, refl, sym, ap, subst, ◌∙◌, append_assoc, arith, inl, inr}
+use Rattle.std.proofs.Common.{◌≡◌, ℕ, suc, ◌+◌, ◌-◌, ◌^◌, ◌<◌, ◌≤◌, Bool, true, false, not, cond, eqb, ltb, leb, List, [], ◌∷◌, ◌++◌, length, take}
+use Rattle.std.proofs.Common.{drop, replicate, map, Option, Some, None, Ok, refl, sym, ap, subst, ◌∙◌, append_assoc, arith, inl, inr}
 use Rattle.std.specs.Prelude.{ℤ, pos, negsuc, ◌&&◌, ◌||◌, MatchBool, flat_map, slice_index, unwrap_or, is_some, ok_or, decimal}
 use Rattle.std.specs.List.{AllByRecursion, list_all, position, position_or_len}
 use Rattle.std.specs.Char.{is_ascii_digit}
@@ -16,9 +17,12 @@ use Rattle.coll_kinds.specs.declared.datatype.Datatype.TheVariants.{I8, I16, I32
 use Rattle.coll_kinds.specs.declared.operation.Op.{Op}
 use Rattle.coll_kinds.specs.declared.operation.Op.TheVariants.{Max, Min, Sum, Prod, Land, Lor, Lxor, Band, Bor, Bxor, LastNz, MaxLoc, MinLoc}
 use Rattle.coll_kinds.specs.declared.kind.Kind.{Kind}
-use Rattle.coll_kinds.specs.declared.kind.Kind.TheVariants.{Barrier, Bcast, Gather, Scatter, Allgather, Allgatherv, Alltoall, Reduce, Allreduce, Rsblock, Scan, Exscan}
+use Rattle.coll_kinds.specs.declared.kind.Kind.TheVariants.{Barrier, Bcast, Gather, Scatter, Allgather, Allgatherv, Alltoall, Reduce, Allreduce}
+use Rattle.coll_kinds.specs.declared.kind.Kind.TheVariants.{Rsblock, Scan, Exscan}
 use Rattle.coll_kinds.specs.declared.signature.Signature.{Signature}
-use Rattle.coll_kinds.specs.Common.{has_root, has_operation, is_barrier, has_counts, broken, max_ranks, Element, whole, pair, is_signed, is_pair, limit, in_range, IsElement, element_bytes, number_in, pair_of, value_of, text_of, kind_word, operation_word, datatype_word, kind_of, operation_of, datatype_of}
+use Rattle.coll_kinds.specs.Common.{has_root, has_operation, is_barrier, has_counts, broken, max_ranks, Element, whole, pair, is_signed, is_pair}
+use Rattle.coll_kinds.specs.Common.{limit, in_range, IsElement, element_bytes, number_in, pair_of, value_of, text_of, kind_word, operation_word}
+use Rattle.coll_kinds.specs.Common.{datatype_word, kind_of, operation_of, datatype_of}
 use Rattle.coll_kinds.specs.Texts.{number_of}
 use Rattle.coll_parser.specs.declared.cause.Cause.TheVariants.{BadSignature, NamedTwice}
 use Rattle.coll_parser.specs.Reading.{and_then, ◌>>=◌, give, numbers_from}
@@ -44,7 +48,8 @@ within-again low limit n le lt small = rw (number-again n small, le-leb low n le
 pub request-again : (count q : ℕ) → q < 2 ^ 64 → q < count → request_in count (decimal q) ≡ Ok q
 request-again count q small lt = rw (number-again q small, lt-ltb q count lt) refl
 
-pub numbers-again : (count : ℕ) (before qs : List ℕ) → AllByRecursion (λ q. (q < 2 ^ 64) × (q < count)) qs → NoneTwice before qs → numbers_from (request_in count) NamedTwice before (map decimal qs) ≡ Ok (before ++ qs)
+pub numbers-again : (count : ℕ) (before qs : List ℕ) → AllByRecursion (λ q. (q < 2 ^ 64) × (q < count)) qs → NoneTwice before qs
+    → numbers_from (request_in count) NamedTwice before (map decimal qs) ≡ Ok (before ++ qs)
 numbers-again count before [] made none = ap Ok (sym (append-nil before))
 numbers-again count before (q ∷ qs) made none =
     rw (request-again count q made.0.0 made.0.1, none.0) (numbers-again count (before ++ q ∷ []) qs made.1 none.1 ∙ ap Ok (append_assoc before (q ∷ []) qs))
@@ -177,7 +182,8 @@ behind-again : (text behind : List ℕ) → drop (length text + 1) (text ++ 44 �
 behind-again text behind =
     ap (drop (length text + 1)) (sym (append_assoc text (44 ∷ []) behind)) ∙ drop_at (text ++ 44 ∷ []) behind (length text + 1) (length-append text (44 ∷ []))
 
-pair-read : (word : List ℕ) (comma : ℕ) (z at : ℤ) → position (λ c. eqb c 44) word ≡ Some comma → number_in I32 (take comma word) ≡ Some z → number_in I32 (drop (comma + 1) word) ≡ Some at → pair_of word ≡ Some (pair z at)
+pair-read : (word : List ℕ) (comma : ℕ) (z at : ℤ) → position (λ c. eqb c 44) word ≡ Some comma
+    → number_in I32 (take comma word) ≡ Some z → number_in I32 (drop (comma + 1) word) ≡ Some at → pair_of word ≡ Some (pair z at)
 pair-read word comma z at there first second = rw (there, first, second) refl
 
 pair-again : (z at : ℤ) → in_range I32 z ≡ true → in_range I32 at ≡ true → pair_of (text_of (pair z at)) ≡ Some (pair z at)
@@ -213,7 +219,8 @@ bytes-again ty (e ∷ es) are =
     flat_map-cons (bytes_of ty) (text_of e) (map text_of es) ∙ (ap (λ (x : List ℕ). x ++ flat_map (bytes_of ty) (map text_of es)) here
     ∙ ap (λ (x : List ℕ). element_bytes ty e ++ x) (bytes-again ty es are.1)) ∙ sym (flat_map-cons (element_bytes ty) e es)
 
-pub values-again : (ty : Datatype) (count : ℕ) (elements : List Element) (given : List ℕ) → AreValues ty count elements given → values count ty (value_words elements) ≡ Ok (given, [])
+pub values-again : (ty : Datatype) (count : ℕ) (elements : List Element) (given : List ℕ) → AreValues ty count elements given
+    → values count ty (value_words elements) ≡ Ok (given, [])
 unfolding values
 values-again ty count elements given are =
     let counted : eqb (length (map text_of elements)) count ≡ true = eq-eqb _ _ (length-map elements text_of ∙ are.0) in
@@ -231,15 +238,18 @@ op-again : (b : Bool) (op : Option Op) (rest : List (List ℕ)) → MatchBool b 
 op-again true op rest fits = rw (fits.1, operation-again fits.0) refl
 op-again false op rest fits = rw fits refl
 
-counts-again : (before cs : List ℕ) (rest : List (List ℕ)) → AllByRecursion (λ c. c < 2 ^ 32) cs → counts_from before (length cs) (map decimal cs ++ rest) ≡ Ok (before ++ cs, rest)
+counts-again : (before cs : List ℕ) (rest : List (List ℕ)) → AllByRecursion (λ c. c < 2 ^ 32) cs
+    → counts_from before (length cs) (map decimal cs ++ rest) ≡ Ok (before ++ cs, rest)
 counts-again before [] rest fit = ap (λ (x : List ℕ). Ok (x, rest)) (sym (append-nil before))
 counts-again before (c ∷ cs) rest fit =
-    rw (within-again 0 (2 ^ 32) c (omega arith) fit.0 (omega (arith, fit.0))) (counts-again (before ++ c ∷ []) cs rest fit.1 ∙ ap (λ (x : List ℕ). Ok (x, rest)) (append_assoc before (c ∷ []) cs))
+    rw (within-again 0 (2 ^ 32) c (omega arith) fit.0 (omega (arith, fit.0)))
+    (counts-again (before ++ c ∷ []) cs rest fit.1 ∙ ap (λ (x : List ℕ). Ok (x, rest)) (append_assoc before (c ∷ []) cs))
 
 each-again : (n : ℕ) (cs : List ℕ) (rest : List (List ℕ)) → length cs ≡ n → AllByRecursion (λ c. c < 2 ^ 32) cs
     → some_counts n (map decimal (take n (cs ++ replicate (max_ranks - n) 0)) ++ rest) ≡ Ok (Some (cs ++ replicate (max_ranks - n) 0), rest)
 each-again n cs rest count fit =
-    let read : counts_from [] n (map decimal cs ++ rest) ≡ Ok (cs, rest) = subst (λ m. counts_from [] m (map decimal cs ++ rest) ≡ Ok (cs, rest)) count (counts-again [] cs rest fit) in
+    let read : counts_from [] n (map decimal cs ++ rest) ≡ Ok (cs, rest) =
+    subst (λ m. counts_from [] m (map decimal cs ++ rest) ≡ Ok (cs, rest)) count (counts-again [] cs rest fit) in
     rw (take_at cs (replicate (max_ranks - n) 0) n count, read) refl
 
 -- no kind has both no elements and a count for each member
@@ -258,8 +268,10 @@ not-both Scan none counted = absurd cc
 not-both Exscan none counted = absurd cc
 
 module _ (n : ℕ) (ty : Datatype) (count : ℕ) (each : Option (List ℕ)) (rest : List (List ℕ)) (sig : Datatype → ℕ → Option (List ℕ) → Signature) where
-  tail-again : (b c : Bool) → (b ≡ true → c ≡ true → ⊥) → (b ≡ true → ty ≡ Byte) → MatchBool (b || c) (count ≡ 0) (count < 2 ^ 32) → MatchBool c (AreCounts n each) (each ≡ None)
-      → (cond b (give Byte) (next (λ w. ok_or (datatype_of w) BadSignature)) >>= λ t. cond (b || c) (give 0) (next count_in) >>= λ m. cond c (some_counts n) (give None) >>= λ e. give (sig t m e))
+  tail-again : (b c : Bool) → (b ≡ true → c ≡ true → ⊥) → (b ≡ true → ty ≡ Byte)
+      → MatchBool (b || c) (count ≡ 0) (count < 2 ^ 32) → MatchBool c (AreCounts n each) (each ≡ None)
+      → (cond b (give Byte) (next (λ w. ok_or (datatype_of w) BadSignature)) >>= λ t. cond (b || c) (give 0) (next count_in) >>=
+      λ m. cond c (some_counts n) (give None) >>= λ e. give (sig t m e))
       (cond b [] (datatype_word ty ∷ count_words n count each) ++ rest) ≡ Ok (sig ty count each, rest)
   tail-again true true apart byte fits are = absurd (apart refl refl)
   tail-again true false apart byte fits are = rw (byte refl, fits, are) refl
@@ -267,16 +279,22 @@ module _ (n : ℕ) (ty : Datatype) (count : ℕ) (each : Option (List ℕ)) (res
   tail-again false false apart byte fits are = rw (datatype-again ty, are, within-again 0 (2 ^ 32) count (omega arith) fits (omega (arith, fits))) refl
 
 fields-again : (sig : Signature) (n : ℕ) (rest : List (List ℕ)) → HasWords n sig
-    → fields sig.mode n sig.kind (cond (has_root sig.kind) (decimal sig.root ∷ []) [] ++ (operation_words sig.op ++ (cond (is_barrier sig.kind) [] (datatype_word sig.ty ∷ count_words n sig.count sig.each) ++ rest))) ≡ Ok (sig, rest)
+    → fields sig.mode n sig.kind
+    (cond (has_root sig.kind) (decimal sig.root ∷ []) []
+    ++ (operation_words sig.op ++ (cond (is_barrier sig.kind) [] (datatype_word sig.ty ∷ count_words n sig.count sig.each) ++ rest))) ≡ Ok (sig, rest)
 unfolding fields
 fields-again sig n rest has =
     rw (
-      root-again (has_root sig.kind) sig.root (operation_words sig.op ++ (cond (is_barrier sig.kind) [] (datatype_word sig.ty ∷ count_words n sig.count sig.each) ++ rest)) has.root,
+      root-again (has_root sig.kind) sig.root
+          (operation_words sig.op ++ (cond (is_barrier sig.kind) [] (datatype_word sig.ty ∷ count_words n sig.count sig.each) ++ rest)) has.root,
       op-again (has_operation sig.kind) sig.op (cond (is_barrier sig.kind) [] (datatype_word sig.ty ∷ count_words n sig.count sig.each) ++ rest) has.operation,
     )
-    (tail-again n sig.ty sig.count sig.each rest (λ t m e. record { kind = sig.kind; mode = sig.mode; root = sig.root; op = sig.op; ty = t; count = m; each = e }) (is_barrier sig.kind) (has_counts sig.kind) (not-both sig.kind) has.datatype has.count has.each)
+    (tail-again n sig.ty sig.count sig.each rest
+    (λ t m e. record { kind = sig.kind; mode = sig.mode; root = sig.root; op = sig.op; ty = t; count = m; each = e })
+    (is_barrier sig.kind) (has_counts sig.kind) (not-both sig.kind) has.datatype has.count has.each)
 
-pub signature-again : (sig : Signature) (n : ℕ) (rest : List (List ℕ)) → HasWords n sig → broken sig n ≡ None → signature sig.mode n (signature_words n sig ++ rest) ≡ Ok (sig, rest)
+pub signature-again : (sig : Signature) (n : ℕ) (rest : List (List ℕ)) → HasWords n sig → broken sig n ≡ None
+    → signature sig.mode n (signature_words n sig ++ rest) ≡ Ok (sig, rest)
 unfolding signature
 signature-again sig n rest has checked =
     let roots = cond (has_root sig.kind) (decimal sig.root ∷ []) [] in

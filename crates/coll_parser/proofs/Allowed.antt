@@ -1,5 +1,6 @@
 -- What a line that is accepted says could be said after the lines before it.
-use Rattle.std.proofs.Common.{◌≡◌, ℕ, zero, suc, ◌+◌, ◌*◌, ◌/◌, ◌<◌, Bool, true, false, cond, ltb, eqb, List, [], ◌∷◌, ◌++◌, length, Option, Some, None, Result, Ok, Err, refl, sym, ap, subst, ◌∙◌, arith}
+use Rattle.std.proofs.Common.{◌≡◌, ℕ, zero, suc, ◌+◌, ◌*◌, ◌/◌, ◌<◌, Bool, true, false, cond, ltb, eqb, List, [], ◌∷◌, ◌++◌, length, Option, Some}
+use Rattle.std.proofs.Common.{None, Result, Ok, Err, refl, sym, ap, subst, ◌∙◌, arith}
 use Rattle.std.specs.Prelude.{pos, is_some, is_none, flat_map, unwrap_or, slice_get, ok_or, IfSome}
 use Rattle.std.specs.List.{AllByRecursion, list_all, range_with_len}
 use Rattle.std.proofs.lemmas.Bool.{eqb-true, ltb-true}
@@ -14,14 +15,16 @@ use Rattle.coll_kinds.specs.declared.signature.Signature.{Signature}
 use Rattle.coll_kinds.specs.Common.{broken, Element, whole, element_bytes, width, member_of, is_among, value_of, kind_of}
 use Rattle.coll_kinds.specs.Texts.{number_of}
 use Rattle.coll_parser.specs.declared.cause.Cause.{Cause}
-use Rattle.coll_parser.specs.declared.cause.Cause.TheVariants.{BadNumber, BadRank, BadCommunicator, BadSignature, BadValue, WrongValueCount, UnknownRequest, NamedTwice, NotStartable, TooManyRequests}
+use Rattle.coll_parser.specs.declared.cause.Cause.TheVariants.{BadNumber, BadRank, BadCommunicator, BadSignature, BadValue, WrongValueCount}
+use Rattle.coll_parser.specs.declared.cause.Cause.TheVariants.{UnknownRequest, NamedTwice, NotStartable, TooManyRequests}
 use Rattle.coll_parser.specs.declared.command.Command.{Command}
 use Rattle.coll_parser.specs.declared.command.Command.TheVariants.{Post, Init, Start, Wait, Test, Free, WaitAny, WaitSome, WaitAll}
 use Rattle.coll_parser.specs.declared.verb.Verb.{Verb}
 use Rattle.coll_parser.specs.declared.verb.Verb.TheVariants as verb
 use Rattle.coll_parser.specs.Reading.{Reading, and_then, ◌>>=◌, give, known, must, end, numbers_from}
 use Rattle.coll_parser.specs.Histories.{History, Posting, posting, group_of, issued_by, is_startable, total}
-use Rattle.coll_parser.specs.Lines.{next, request_in, communicator, fields, signature, due, colon, values, room, post, init, made, startable, start, free, one, some, all, wait, test, waitany, waitsome, waitall}
+use Rattle.coll_parser.specs.Lines.{next, request_in, communicator, fields, signature, due, colon, values, room, post, init, made, startable, start}
+use Rattle.coll_parser.specs.Lines.{free, one, some, all, wait, test, waitany, waitsome, waitall}
 use Rattle.coll_parser.specs.Sound.{IsPosting, MayIssue}
 use Rattle.coll_parser.specs.Code.{read_by}
 use Rattle.coll_parser.proofs.Contributions.{given_len-whole}
@@ -44,7 +47,8 @@ pub must-is : (b : Bool) (cause : Cause) (words : List (List ℕ)) (a : Unit {0}
 must-is true cause words a e = refl
 must-is false cause words a e = absurd cc
 
-pub next-is : {A : Type 0} (read : List ℕ → Result A Cause) (words : List (List ℕ)) (a : A × List (List ℕ)) → next read words ≡ Ok a → (w : List ℕ) × (read w ≡ Ok a.0)
+pub next-is : {A : Type 0} (read : List ℕ → Result A Cause) (words : List (List ℕ)) (a : A × List (List ℕ))
+    → next read words ≡ Ok a → (w : List ℕ) × (read w ≡ Ok a.0)
 next-is read [] a e = absurd cc
 next-is read (w ∷ words) a e =
     let it = then-is (read w) (λ x. Ok (x, words)) a e in
@@ -74,12 +78,17 @@ length-bytes ty (w ∷ words) =
     ∙ omega (arith, length-element_bytes ty (unwrap_or (value_of ty w) (whole (pos 0))), length-bytes ty words)
 
 -- the bytes of that many values
-pub values-length : (count : ℕ) (ty : Datatype) (words : List (List ℕ)) (a : List ℕ × List (List ℕ)) → values count ty words ≡ Ok a → length a.0 ≡ count * width ty
+pub values-length : (count : ℕ) (ty : Datatype) (words : List (List ℕ)) (a : List ℕ × List (List ℕ))
+    → values count ty words ≡ Ok a → length a.0 ≡ count * width ty
 unfolding values
 values-length count ty words a e =
-    let first = bind-is (colon count) (λ ws. must (eqb (length ws) count) WrongValueCount >>= λ counted. must (list_all (λ w. is_some (value_of ty w)) ws) BadValue >>= λ valued. give (flat_map (bytes_of ty) ws)) words a e in
+    let first = bind-is (colon count)
+    (λ ws. must (eqb (length ws) count) WrongValueCount >>= λ counted. must (list_all (λ w. is_some (value_of ty w)) ws)
+    BadValue >>= λ valued. give (flat_map (bytes_of ty) ws)) words a e in
     let ws = first.0.0 in
-    let second = bind-is (must (eqb (length ws) count) WrongValueCount) (λ counted. must (list_all (λ w. is_some (value_of ty w)) ws) BadValue >>= λ valued. give (flat_map (bytes_of ty) ws)) first.0.1 a first.2 in
+    let second =
+    bind-is (must (eqb (length ws) count) WrongValueCount)
+    (λ counted. must (list_all (λ w. is_some (value_of ty w)) ws) BadValue >>= λ valued. give (flat_map (bytes_of ty) ws)) first.0.1 a first.2 in
     let third = bind-is (must (list_all (λ w. is_some (value_of ty w)) ws) BadValue) (λ valued. give (flat_map (bytes_of ty) ws)) second.0.1 a second.2 in
     let counted : length ws ≡ count = eqb-true _ _ (must-is _ WrongValueCount first.0.1 second.0 second.1) in
     let given : flat_map (bytes_of ty) ws ≡ a.0 = cc in
@@ -87,12 +96,15 @@ values-length count ty words a e =
 
 -- ---- posts
 
-pub communicator-is : (groups : List (List ℕ)) (rank : ℕ) (words : List (List ℕ)) (a : ℕ × List (List ℕ)) (sig : Signature) → communicator groups rank words ≡ Ok a
+pub communicator-is : (groups : List (List ℕ)) (rank : ℕ) (words : List (List ℕ)) (a : ℕ × List (List ℕ)) (sig : Signature)
+    → communicator groups rank words ≡ Ok a
     → broken sig (length (group_of groups a.0)) ≡ None → IsPosting groups rank a.0 sig
 communicator-is groups rank words a sig e checked =
-    let first = bind-is (next (λ w. ok_or (number_of w) BadNumber)) (λ comm. known (slice_get groups comm) BadCommunicator >>= λ group. known (member_of rank group) BadRank >>= λ member. give comm) words a e in
+    let first = bind-is (next (λ w. ok_or (number_of w) BadNumber))
+    (λ comm. known (slice_get groups comm) BadCommunicator >>= λ group. known (member_of rank group) BadRank >>= λ member. give comm) words a e in
     let comm = first.0.0 in
-    let second = bind-is (known (slice_get groups comm) BadCommunicator) (λ group. known (member_of rank group) BadRank >>= λ member. give comm) first.0.1 a first.2 in
+    let second =
+    bind-is (known (slice_get groups comm) BadCommunicator) (λ group. known (member_of rank group) BadRank >>= λ member. give comm) first.0.1 a first.2 in
     let group = second.0.0 in
     let third = bind-is (known (member_of rank group) BadRank) (λ member. give comm) second.0.1 a second.2 in
     let same : comm ≡ a.0 = cc in
@@ -113,7 +125,8 @@ none-is (Some x) e = absurd cc
 pub signature-checked : (mode : Mode) (n : ℕ) (words : List (List ℕ)) (a : Signature × List (List ℕ)) → signature mode n words ≡ Ok a → broken a.0 n ≡ None
 unfolding signature
 signature-checked mode n words a e =
-    let first = bind-is (next (λ w. ok_or (kind_of w) BadSignature)) (λ kind. fields mode n kind >>= λ sig. must (is_none (broken sig n)) BadSignature >>= λ checked. give sig) words a e in
+    let first = bind-is (next (λ w. ok_or (kind_of w) BadSignature))
+    (λ kind. fields mode n kind >>= λ sig. must (is_none (broken sig n)) BadSignature >>= λ checked. give sig) words a e in
     let second = bind-is (fields mode n first.0.0) (λ sig. must (is_none (broken sig n)) BadSignature >>= λ checked. give sig) first.0.1 a first.2 in
     let sig = second.0.0 in
     let third = bind-is (must (is_none (broken sig n)) BadSignature) (λ checked. give sig) second.0.1 a second.2 in
@@ -127,34 +140,45 @@ HasRoom h c = IfSome (posting c) (λ p. total h.commands < 4096)
 abbrev pub Allows : History → ℕ → Command → Type 0
 Allows h rank c = MayIssue h.groups rank (issued_by rank h.commands) c × HasRoom h c
 
-last-is : (b : Bool) (cause : Cause) (c : Command) (words : List (List ℕ)) (a : Command × List (List ℕ)) → (must b cause >>= λ fits. give c) words ≡ Ok a → (b ≡ true) × (c ≡ a.0)
+last-is : (b : Bool) (cause : Cause) (c : Command) (words : List (List ℕ)) (a : Command × List (List ℕ))
+    → (must b cause >>= λ fits. give c) words ≡ Ok a → (b ≡ true) × (c ≡ a.0)
 last-is true cause c words a e = (refl, cc)
 last-is false cause c words a e = absurd cc
 
-pub room-is : (h : History) (c : Command) (words : List (List ℕ)) (a : Command × List (List ℕ)) → (room h >>= λ fits. give c) words ≡ Ok a → (c ≡ a.0) × (total h.commands < 4096)
+pub room-is : (h : History) (c : Command) (words : List (List ℕ)) (a : Command × List (List ℕ))
+    → (room h >>= λ fits. give c) words ≡ Ok a → (c ≡ a.0) × (total h.commands < 4096)
 room-is h c words a e = let last = last-is (ltb (total h.commands) 4096) TooManyRequests c words a e in (last.1, ltb-true (total h.commands) 4096 last.0)
 
 post-allowed : (h : History) (rank : ℕ) (words : List (List ℕ)) (a : Command × List (List ℕ)) → post h rank words ≡ Ok a → Allows h rank a.0
 unfolding post
 post-allowed h rank words a e =
-    let first = bind-is (communicator h.groups rank) (λ comm. signature Once (length (group_of h.groups comm)) >>= λ sig. values (due h.groups rank comm sig / width sig.ty) sig.ty >>= λ given. room h >>= λ fits. give (Post comm sig given)) words a e in
+    let first = bind-is (communicator h.groups rank)
+    (λ comm. signature Once (length (group_of h.groups comm)) >>= λ sig. values (due h.groups rank comm sig / width sig.ty)
+    sig.ty >>= λ given. room h >>= λ fits. give (Post comm sig given)) words a e in
     let comm = first.0.0 in
-    let second = bind-is (signature Once (length (group_of h.groups comm))) (λ sig. values (due h.groups rank comm sig / width sig.ty) sig.ty >>= λ given. room h >>= λ fits. give (Post comm sig given)) first.0.1 a first.2 in
+    let second =
+    bind-is (signature Once (length (group_of h.groups comm)))
+    (λ sig. values (due h.groups rank comm sig / width sig.ty) sig.ty >>= λ given. room h >>= λ fits. give (Post comm sig given)) first.0.1 a first.2 in
     let sig = second.0.0 in
-    let third = bind-is (values (due h.groups rank comm sig / width sig.ty) sig.ty) (λ given. room h >>= λ fits. give (Post comm sig given)) second.0.1 a second.2 in
+    let third = bind-is (values (due h.groups rank comm sig / width sig.ty) sig.ty)
+    (λ given. room h >>= λ fits. give (Post comm sig given)) second.0.1 a second.2 in
     let given = third.0.0 in
     let last = room-is h (Post comm sig given) third.0.1 a third.2 in
     let checked = signature-checked Once (length (group_of h.groups comm)) first.0.1 second.0 second.1 in
     let fits : length given ≡ due h.groups rank comm sig =
-    values-length (due h.groups rank comm sig / width sig.ty) sig.ty second.0.1 third.0 third.1 ∙ given_len-whole sig (length (group_of h.groups comm)) (unwrap_or (member_of rank (group_of h.groups comm)) 0) in
+    values-length (due h.groups rank comm sig / width sig.ty) sig.ty second.0.1 third.0 third.1
+    ∙ given_len-whole sig (length (group_of h.groups comm)) (unwrap_or (member_of rank (group_of h.groups comm)) 0) in
     subst (Allows h rank) last.0 ((communicator-is h.groups rank words first.0 sig first.1 checked, fits), last.1)
 
 init-allowed : (h : History) (rank : ℕ) (words : List (List ℕ)) (a : Command × List (List ℕ)) → init h rank words ≡ Ok a → Allows h rank a.0
 unfolding init
 init-allowed h rank words a e =
-    let first = bind-is (communicator h.groups rank) (λ comm. signature Persistent (length (group_of h.groups comm)) >>= λ sig. end >>= λ ended. room h >>= λ fits. give (Init comm sig)) words a e in
+    let first = bind-is (communicator h.groups rank)
+    (λ comm. signature Persistent (length (group_of h.groups comm)) >>= λ sig. end >>= λ ended. room h >>= λ fits. give (Init comm sig)) words a e in
     let comm = first.0.0 in
-    let second = bind-is (signature Persistent (length (group_of h.groups comm))) (λ sig. end >>= λ ended. room h >>= λ fits. give (Init comm sig)) first.0.1 a first.2 in
+    let second =
+    bind-is (signature Persistent (length (group_of h.groups comm)))
+    (λ sig. end >>= λ ended. room h >>= λ fits. give (Init comm sig)) first.0.1 a first.2 in
     let sig = second.0.0 in
     let third = bind-is end (λ ended. room h >>= λ fits. give (Init comm sig)) second.0.1 a second.2 in
     let last = room-is h (Init comm sig) third.0.1 a third.2 in
@@ -172,9 +196,13 @@ pub startable-is : (h : History) (rank : ℕ) (words : List (List ℕ)) (a : (�
     → startable h rank words ≡ Ok a → IsStartable h rank a.0
 unfolding startable
 startable-is h rank words a e =
-    let first = bind-is (next (request_in (length (made h rank)))) (λ q. known (slice_get (made h rank) q) UnknownRequest >>= λ p. must (is_startable q p (issued_by rank h.commands)) NotStartable >>= λ fits. give (q, p)) words a e in
+    let first = bind-is (next (request_in (length (made h rank))))
+    (λ q. known (slice_get (made h rank) q) UnknownRequest >>= λ p. must (is_startable q p (issued_by rank h.commands))
+    NotStartable >>= λ fits. give (q, p)) words a e in
     let q = first.0.0 in
-    let second = bind-is (known (slice_get (made h rank) q) UnknownRequest) (λ p. must (is_startable q p (issued_by rank h.commands)) NotStartable >>= λ fits. give (q, p)) first.0.1 a first.2 in
+    let second =
+    bind-is (known (slice_get (made h rank) q) UnknownRequest)
+    (λ p. must (is_startable q p (issued_by rank h.commands)) NotStartable >>= λ fits. give (q, p)) first.0.1 a first.2 in
     let p = second.0.0 in
     let third = bind-is (must (is_startable q p (issued_by rank h.commands)) NotStartable) (λ fits. give (q, p)) second.0.1 a second.2 in
     let same : (q, p) ≡ a.0 = cc in
@@ -184,9 +212,11 @@ startable-is h rank words a e =
 start-allowed : (h : History) (rank : ℕ) (words : List (List ℕ)) (a : Command × List (List ℕ)) → start h rank words ≡ Ok a → Allows h rank a.0
 unfolding start
 start-allowed h rank words a e =
-    let first = bind-is (startable h rank) (λ it. values (due h.groups rank it.1.comm it.1.sig / width it.1.sig.ty) it.1.sig.ty >>= λ given. give (Start it.0 given)) words a e in
+    let first = bind-is (startable h rank)
+    (λ it. values (due h.groups rank it.1.comm it.1.sig / width it.1.sig.ty) it.1.sig.ty >>= λ given. give (Start it.0 given)) words a e in
     let it = first.0.0 in
-    let second = bind-is (values (due h.groups rank it.1.comm it.1.sig / width it.1.sig.ty) it.1.sig.ty) (λ given. give (Start it.0 given)) first.0.1 a first.2 in
+    let second =
+    bind-is (values (due h.groups rank it.1.comm it.1.sig / width it.1.sig.ty) it.1.sig.ty) (λ given. give (Start it.0 given)) first.0.1 a first.2 in
     let given = second.0.0 in
     let same : Start it.0 given ≡ a.0 = cc in
     let fits : length given ≡ due h.groups rank it.1.comm it.1.sig =
@@ -253,10 +283,12 @@ pub twice-not : {A : Type 0} (b : Bool) (cause : Cause) (r : Result A Cause) (a 
 twice-not true cause r a e = absurd cc
 twice-not false cause r a e = e
 
-numbers-below : (count : ℕ) (before : List ℕ) (words : List (List ℕ)) (qs : List ℕ) → AllByRecursion (λ n. n < count) before → numbers_from (request_in count) NamedTwice before words ≡ Ok qs → AllByRecursion (λ n. n < count) qs
+numbers-below : (count : ℕ) (before : List ℕ) (words : List (List ℕ)) (qs : List ℕ) → AllByRecursion (λ n. n < count) before
+    → numbers_from (request_in count) NamedTwice before words ≡ Ok qs → AllByRecursion (λ n. n < count) qs
 numbers-below count before [] qs are e = let same : before ≡ qs = cc in subst (AllByRecursion (λ n. n < count)) same are
 numbers-below count before (w ∷ words) qs are e =
-    let read = then-is (request_in count w) (λ n. cond (is_among n before) (Err NamedTwice) (numbers_from (request_in count) NamedTwice (before ++ n ∷ []) words)) qs e in
+    let read = then-is (request_in count w)
+    (λ n. cond (is_among n before) (Err NamedTwice) (numbers_from (request_in count) NamedTwice (before ++ n ∷ []) words)) qs e in
     let rest = twice-not (is_among read.0 before) NamedTwice (numbers_from (request_in count) NamedTwice (before ++ read.0 ∷ []) words) qs read.2 in
     numbers-below count (before ++ read.0 ∷ []) words qs (All-push count before read.0 are (request-below count w read.0 read.1)) rest
 
@@ -264,7 +296,8 @@ range-below : (first n count : ℕ) → first + n ≡ count → AllByRecursion (
 range-below first zero count e = tt
 range-below first (suc n) count e = (omega arith, range-below (first + 1) n count (omega arith))
 
-all-below : (h : History) (rank : ℕ) (words : List (List ℕ)) (a : List ℕ × List (List ℕ)) → all h rank words ≡ Ok a → AllByRecursion (λ q. q < length (made h rank)) a.0
+all-below : (h : History) (rank : ℕ) (words : List (List ℕ)) (a : List ℕ × List (List ℕ)) → all h rank words ≡ Ok a
+    → AllByRecursion (λ q. q < length (made h rank)) a.0
 all-below h rank [] a e =
     let same : range_with_len 0 (length (made h rank)) ≡ a.0 = cc in
     subst (AllByRecursion (λ q. q < length (made h rank))) same (range-below 0 (length (made h rank)) (length (made h rank)) (omega arith))
@@ -292,10 +325,14 @@ read-allowed verb.WaitAll h rank words a e = waitall-allowed h rank words a e
 
 -- ---- a post that is read, step by step
 
-pub post-reads : (h : History) (rank comm n count : ℕ) (sig : Signature) (given : List ℕ) (words first second third : List (List ℕ)) → communicator h.groups rank words ≡ Ok (comm, first) → n ≡ length (group_of h.groups comm)
-    → signature Once n first ≡ Ok (sig, second) → count ≡ due h.groups rank comm sig / width sig.ty → values count sig.ty second ≡ Ok (given, third) → room h third ≡ Ok (tt, third) → post h rank words ≡ Ok (Post comm sig given, third)
+pub post-reads : (h : History) (rank comm n count : ℕ) (sig : Signature) (given : List ℕ) (words first second third : List (List ℕ))
+    → communicator h.groups rank words ≡ Ok (comm, first) → n ≡ length (group_of h.groups comm)
+    → signature Once n first ≡ Ok (sig, second) → count ≡ due h.groups rank comm sig / width sig.ty
+    → values count sig.ty second ≡ Ok (given, third) → room h third ≡ Ok (tt, third) → post h rank words ≡ Ok (Post comm sig given, third)
 unfolding post
 post-reads h rank comm n count sig given words first second third at size signed amount valued fits =
-    let signed_there : signature Once (length (group_of h.groups comm)) first ≡ Ok (sig, second) = subst (λ m. signature Once m first ≡ Ok (sig, second)) size signed in
-    let valued_there : values (due h.groups rank comm sig / width sig.ty) sig.ty second ≡ Ok (given, third) = subst (λ m. values m sig.ty second ≡ Ok (given, third)) amount valued in
+    let signed_there : signature Once (length (group_of h.groups comm)) first ≡ Ok (sig, second) =
+    subst (λ m. signature Once m first ≡ Ok (sig, second)) size signed in
+    let valued_there : values (due h.groups rank comm sig / width sig.ty) sig.ty second ≡ Ok (given, third) =
+    subst (λ m. values m sig.ty second ≡ Ok (given, third)) amount valued in
     rw (at, signed_there, valued_there, fits) refl

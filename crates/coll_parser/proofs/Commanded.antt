@@ -1,5 +1,6 @@
 -- The commands of a rank, and how many requests they make.
-use Rattle.std.proofs.Common.{◌≡◌, ℕ, ◌+◌, ◌<◌, ◌≤◌, Bool, true, false, cond, eqb, List, [], ◌∷◌, ◌++◌, length, take, get_or, Option, Some, None, ap, sym, ◌∙◌, arith}
+use Rattle.std.proofs.Common.{◌≡◌, ℕ, ◌+◌, ◌<◌, ◌≤◌, Bool, true, false, cond, eqb, List, [], ◌∷◌, ◌++◌, length, take, get_or, Option, Some, None, ap}
+use Rattle.std.proofs.Common.{sym, ◌∙◌, arith}
 use Rattle.std.specs.Prelude.{filter, filter_map}
 use Rattle.std.specs.List.{cons_option}
 use Rattle.std.proofs.lemmas.List.{length-append, length-map, length-take}
@@ -42,12 +43,14 @@ length-made-take rank issued i =
 pub length-one : (c : Command) → length (postings (c ∷ [])) ≤ 1
 length-one c = length-filter_map posting (c ∷ [])
 
-pub issued-next-own : (issued : List IssuedCommand) (i : ℕ) (t : IssuedCommand) (rank : ℕ) → i < length issued → t ≡ get_or issued i t → t.rank ≡ rank → issued_by rank (take (i + 1) issued) ≡ issued_by rank (take i issued) ++ t.command ∷ []
+pub issued-next-own : (issued : List IssuedCommand) (i : ℕ) (t : IssuedCommand) (rank : ℕ) → i < length issued
+    → t ≡ get_or issued i t → t.rank ≡ rank → issued_by rank (take (i + 1) issued) ≡ issued_by rank (take i issued) ++ t.command ∷ []
 issued-next-own issued i t rank lt is own =
     ap (issued_by rank) (take-next issued i t lt is) ∙ ap (λ r. issued_by r (take i issued ++ t ∷ [])) (sym own) ∙ issued-own (take i issued) t
     ∙ ap (λ r. issued_by r (take i issued) ++ t.command ∷ []) own
 
-pub issued-next-other : (issued : List IssuedCommand) (i : ℕ) (t : IssuedCommand) (rank : ℕ) → i < length issued → t ≡ get_or issued i t → (t.rank ≡ rank → ⊥) → issued_by rank (take (i + 1) issued) ≡ issued_by rank (take i issued)
+pub issued-next-other : (issued : List IssuedCommand) (i : ℕ) (t : IssuedCommand) (rank : ℕ) → i < length issued
+    → t ≡ get_or issued i t → (t.rank ≡ rank → ⊥) → issued_by rank (take (i + 1) issued) ≡ issued_by rank (take i issued)
 issued-next-other issued i t rank lt is ne = ap (issued_by rank) (take-next issued i t lt is) ∙ issued-other rank (take i issued) t (λ e. ne (sym e))
 
 pub made-next : (commands : List Command) (c : Command) → length (postings (commands ++ c ∷ [])) ≡ length (postings commands) + length (postings (c ∷ []))

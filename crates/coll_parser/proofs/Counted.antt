@@ -16,7 +16,8 @@ pub AreCounted-none : (n : ℕ) (words : List (List ℕ)) → AreCounted n 0 (re
 AreCounted-none n words = record { so_far = []; count = refl; parts = refl; read = (let all : n - 0 ≡ n = omega arith in rw all refl) }
 
 module _ (n i : ℕ) (row : List ℕ) (left words : List (List ℕ)) (are : AreCounted n i row left words) where
-  pub AreCounted-more : (c : ℕ) (behind : List (List ℕ)) → i < n → n ≤ max_ranks → next count_in left ≡ Ok (c, behind) → AreCounted n (i + 1) (set row i c) behind words
+  pub AreCounted-more : (c : ℕ) (behind : List (List ℕ)) → i < n → n ≤ max_ranks → next count_in left ≡ Ok (c, behind)
+      → AreCounted n (i + 1) (set row i c) behind words
   AreCounted-more c behind lt few is =
       let one_left : n - i ≡ suc (n - (i + 1)) = omega (arith, lt) in
       let one_free : max_ranks - i ≡ suc (max_ranks - (i + 1)) = omega (arith, lt, few) in
@@ -25,7 +26,8 @@ module _ (n i : ℕ) (row : List ℕ) (left words : List (List ℕ)) (are : AreC
       record {
         so_far = are.so_far ++ c ∷ [];
         count = length-append are.so_far (c ∷ []) ∙ ap (λ k. k + 1) are.count;
-        parts = ap (λ (xs : List ℕ). set xs i c) row_is ∙ set_at are.so_far 0 (replicate (max_ranks - (i + 1)) 0) c i are.count ∙ sym (append_assoc are.so_far (c ∷ []) (replicate (max_ranks - (i + 1)) 0));
+        parts = ap (λ (xs : List ℕ). set xs i c) row_is ∙ set_at are.so_far 0 (replicate (max_ranks - (i + 1)) 0) c i are.count
+            ∙ sym (append_assoc are.so_far (c ∷ []) (replicate (max_ranks - (i + 1)) 0));
         read = sym step ∙ are.read;
       }
 

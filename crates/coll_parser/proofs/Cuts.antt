@@ -79,13 +79,15 @@ body-is front =
     let feed : eqb (slice_index (front ++ 10 ∷ []) (length front)) 10 ≡ true = eq-eqb _ _ (last-is front) in
     rw (at, feed) (take_at front (10 ∷ []) (length front) refl)
 
-split-joined : (words : List (List ℕ)) (lines : List (List (List ℕ))) → AllByRecursion (AllByRecursion IsWord) (words ∷ lines) → slice_split is_line_feed (joined (words ∷ lines)) ≡ map spaced (words ∷ lines)
+split-joined : (words : List (List ℕ)) (lines : List (List (List ℕ))) → AllByRecursion (AllByRecursion IsWord) (words ∷ lines)
+    → slice_split is_line_feed (joined (words ∷ lines)) ≡ map spaced (words ∷ lines)
 split-joined words [] are = slice_split_none is_line_feed (spaced words) (All-from_recursion _ (spaced words) (spaced-feeds words are.0))
 split-joined words (next ∷ lines) are =
     slice_split_at is_line_feed (spaced words) 10 (joined (next ∷ lines)) (All-from_recursion _ (spaced words) (spaced-feeds words are.0)) refl
     ∙ ap (λ (rest : List (List ℕ)). spaced words ∷ rest) (split-joined next lines are.1)
 
-pub lines_of-text : (words : List (List ℕ)) (lines : List (List (List ℕ))) → AllByRecursion (AllByRecursion IsWord) (words ∷ lines) → lines_of (text_of (words ∷ lines)) ≡ map spaced (words ∷ lines)
+pub lines_of-text : (words : List (List ℕ)) (lines : List (List (List ℕ)))
+    → AllByRecursion (AllByRecursion IsWord) (words ∷ lines) → lines_of (text_of (words ∷ lines)) ≡ map spaced (words ∷ lines)
 lines_of-text words lines are =
     ap lines_of (text_of-joined words lines) ∙ ap (slice_split is_line_feed) (body-is (joined (words ∷ lines))) ∙ split-joined words lines are
 
@@ -93,7 +95,8 @@ lines_of-text words lines are =
 
 plain-digit : (c : ℕ) → is_ascii_digit c ≡ true → is_plain c ≡ true
 plain-digit c digit =
-    let other : (b : ℕ) → is_ascii_digit b ≡ false → eqb c b ≡ false = λ b none. ne_eqb c b (λ e. absurd (let both : is_ascii_digit b ≡ true = subst (λ d. is_ascii_digit d ≡ true) e digit in cc)) in
+    let other : (b : ℕ) → is_ascii_digit b ≡ false
+    → eqb c b ≡ false = λ b none. ne_eqb c b (λ e. absurd (let both : is_ascii_digit b ≡ true = subst (λ d. is_ascii_digit d ≡ true) e digit in cc)) in
     rw (other 32 refl, other 9 refl, other 13 refl, other 10 refl) refl
 
 pub plain-digits : (ds : List ℕ) → all_ascii_digits ds ≡ true → list_all is_plain ds ≡ true

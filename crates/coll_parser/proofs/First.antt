@@ -12,7 +12,8 @@ use Rattle.coll_parser.specs.Laws.{IsFirst}
 fault_is : (a b : Fault) → ◌≡◌ {A = Result History Fault} (Err a) (Err b) → a ≡ b
 fault_is a b e = cc
 
-goes_on : (number : ℕ) (h next : History) (bytes : List ℕ) (lines : List (List ℕ)) (fault : Fault) → line number h (words_of bytes) ≡ Ok next → IsFirst (number + 1) next lines fault → IsFirst number h (bytes ∷ lines) fault
+goes_on : (number : ℕ) (h next : History) (bytes : List ℕ) (lines : List (List ℕ)) (fault : Fault)
+    → line number h (words_of bytes) ≡ Ok next → IsFirst (number + 1) next lines fault → IsFirst number h (bytes ∷ lines) fault
 goes_on number h next bytes lines fault is first = record {
   before = bytes ∷ first.before;
   faulty = first.faulty;
@@ -23,7 +24,9 @@ goes_on number h next bytes lines fault is first = record {
   whatever_follows = λ others. rw is (first.whatever_follows others);
 }
 
-stops : (number : ℕ) (h : History) (bytes : List ℕ) (lines : List (List ℕ)) (cause : Cause) (fault : Fault) → line number h (words_of bytes) ≡ Err cause → ◌≡◌ {A = Result History Fault} (Err (record { line = number; cause = cause })) (Err fault) → IsFirst number h (bytes ∷ lines) fault
+stops : (number : ℕ) (h : History) (bytes : List ℕ) (lines : List (List ℕ)) (cause : Cause) (fault : Fault)
+    → line number h (words_of bytes) ≡ Err cause
+    → ◌≡◌ {A = Result History Fault} (Err (record { line = number; cause = cause })) (Err fault) → IsFirst number h (bytes ∷ lines) fault
 stops number h bytes lines cause fault is e = record {
   before = [];
   faulty = bytes;
@@ -36,10 +39,12 @@ stops number h bytes lines cause fault is e = record {
 
 first_by : (number : ℕ) (h : History) (bytes : List ℕ) (lines : List (List ℕ)) (fault : Fault) (read : Result History Cause)
     → ((next : History) → judged (number + 1) next lines ≡ Err fault → IsFirst (number + 1) next lines fault)
-    → line number h (words_of bytes) ≡ read → and_then (in_line number read) (λ next. judged (number + 1) next lines) ≡ Err fault → IsFirst number h (bytes ∷ lines) fault
+    → line number h (words_of bytes) ≡ read → and_then (in_line number read) (λ next. judged (number + 1) next lines) ≡ Err fault
+    → IsFirst number h (bytes ∷ lines) fault
 first_by number h bytes lines fault (Ok next) later is e = goes_on number h next bytes lines fault is (later next e)
 first_by number h bytes lines fault (Err cause) later is e = stops number h bytes lines cause fault is e
 
 pub first_fault : (number : ℕ) (h : History) (lines : List (List ℕ)) (fault : Fault) → judged number h lines ≡ Err fault → IsFirst number h lines fault
 first_fault number h [] fault e = absurd cc
-first_fault number h (bytes ∷ lines) fault e = first_by number h bytes lines fault (line number h (words_of bytes)) (λ next f. first_fault (number + 1) next lines fault f) refl e
+first_fault number h (bytes ∷ lines) fault e =
+    first_by number h bytes lines fault (line number h (words_of bytes)) (λ next f. first_fault (number + 1) next lines fault f) refl e

@@ -1,5 +1,6 @@
 -- What lines have said stays said, and lines that follow only add to it.
-use Rattle.std.proofs.Common.{◌≡◌, ℕ, zero, suc, ◌+◌, Bool, true, false, cond, eqb, List, [], ◌∷◌, ◌++◌, map, Option, Some, None, Result, Ok, Err, refl, sym, ap, subst, ◌∙◌, append_assoc}
+use Rattle.std.proofs.Common.{◌≡◌, ℕ, zero, suc, ◌+◌, Bool, true, false, cond, eqb, List, [], ◌∷◌, ◌++◌, map, Option, Some, None, Result, Ok, Err}
+use Rattle.std.proofs.Common.{refl, sym, ap, subst, ◌∙◌, append_assoc}
 use Rattle.std.specs.Prelude.{length, is_none, is_some, nat_lt, ok_or, codes, filter, fold}
 use Rattle.std.specs.List.{range_with_len}
 use Rattle.std.specs.Str.{bytes_eq}
@@ -35,7 +36,15 @@ settled-then : (a b c : History) → IsSettled a b → IsSettled b c → IsSettl
 settled-then a b c x y = record { groups = y.groups ∙ x.groups; ranks = y.ranks ∙ x.ranks; opened = y.opened }
 
 Grows-none : (h : History) → Grows h h
-Grows-none h = record { more = []; commands = sym (append-nil h.commands); settled = λ r o. record { groups = refl; ranks = refl; opened = o }; early = λ f e. f e; begun = λ f e. f e }
+Grows-none h =
+    record {
+      more = [];
+      commands = sym (append-nil h.commands);
+      settled =
+          λ r o. record { groups = refl; ranks = refl; opened = o };
+      early = λ f e. f e;
+      begun = λ f e. f e;
+    }
 
 Grows-then : (a b c : History) → Grows a b → Grows b c → Grows a c
 Grows-then a b c x y = record {
@@ -50,7 +59,8 @@ Grows-then a b c x y = record {
 abbrev GivesMore : History → Reading History → Type 0
 GivesMore h step = (words : List (List ℕ)) (x : History × List (List ℕ)) → step words ≡ Ok x → Grows h x.0
 
-then-grows : {A : Type 0} (h : History) (r : Result (A × List (List ℕ)) Cause) (next : A → Reading History) (x : History × List (List ℕ)) → ((a : A) → GivesMore h (next a)) → and_then r (λ read. next read.0 read.1) ≡ Ok x → Grows h x.0
+then-grows : {A : Type 0} (h : History) (r : Result (A × List (List ℕ)) Cause) (next : A → Reading History) (x : History × List (List ℕ))
+    → ((a : A) → GivesMore h (next a)) → and_then r (λ read. next read.0 read.1) ≡ Ok x → Grows h x.0
 then-grows h (Ok read) next x each e = each read.0 read.1 x e
 then-grows h (Err cause) next x each e = absurd cc
 
@@ -62,7 +72,8 @@ must-then : (h : History) (b : Bool) (cause : Cause) (next : Reading History) �
 must-then h true cause next each words x e = each refl words x e
 must-then h false cause next each words x e = absurd cc
 
-known-then : {A : Type 0} (h : History) (o : Option A) (cause : Cause) (next : A → Reading History) → ((a : A) → o ≡ Some a → GivesMore h (next a)) → GivesMore h (known o cause >>= next)
+known-then : {A : Type 0} (h : History) (o : Option A) (cause : Cause) (next : A → Reading History)
+    → ((a : A) → o ≡ Some a → GivesMore h (next a)) → GivesMore h (known o cause >>= next)
 known-then h (Some a) cause next each words x e = each a refl words x e
 known-then h None cause next each words x e = absurd cc
 
@@ -95,7 +106,15 @@ abbrev ranked : History → ℕ → History
 ranked h n = record h { ranks = Some n; groups = range_with_len 0 n ∷ [] }
 
 ranked-grows : (h : History) (n : ℕ) → h.ranks ≡ None → Grows h (ranked h n)
-ranked-grows h n none = record { more = []; commands = sym (append-nil h.commands); settled = λ r o. absurd (none-not h.ranks none r); early = λ f e. f e; begun = λ f e. absurd (some-not (Some n) n refl e) }
+ranked-grows h n none =
+    record {
+      more = [];
+      commands = sym (append-nil h.commands);
+      settled = λ r o. absurd (none-not h.ranks none r);
+      early =
+          λ f e. f e;
+      begun = λ f e. absurd (some-not (Some n) n refl e);
+    }
 
 ranks-grows : (h : History) → h.ranks ≡ None → GivesMore h (ranks h)
 unfolding ranks
@@ -107,14 +126,18 @@ abbrev grouped : History → List ℕ → History
 grouped h group = record h { groups = h.groups ++ group ∷ [] }
 
 grouped-grows : (h : History) (group : List ℕ) → is_none h.opened ≡ true → Grows h (grouped h group)
-grouped-grows h group none = record { more = []; commands = sym (append-nil h.commands); settled = λ r o. absurd (is_some-not h.opened o none); early = λ f e. f e; begun = λ f e. f e }
+grouped-grows h group none =
+    record { more = []; commands = sym (append-nil h.commands); settled = λ r o. absurd (is_some-not h.opened o none); early = λ f e. f e; begun = λ f e. f e }
 
 comm-grows : (n : ℕ) (h : History) → GivesMore h (comm n h)
 unfolding comm
 comm-grows n h =
-    must-then h (is_none h.opened) OutOfPlace (must (nat_lt (length h.groups) 16) BadCommunicator >>= λ few. numbers (rank_in n) BadRank >>= λ group. give (grouped h group))
-    (λ early. bind {A = Unit {0}} h (must (nat_lt (length h.groups) 16) BadCommunicator) (λ few. numbers (rank_in n) BadRank >>= λ group. give (grouped h group))
-    (λ few. bind {A = List ℕ} h (numbers (rank_in n) BadRank) (λ group. give (grouped h group)) (λ group. gives h (grouped h group) (grouped-grows h group early))))
+    must-then h (is_none h.opened) OutOfPlace
+    (must (nat_lt (length h.groups) 16) BadCommunicator >>= λ few. numbers (rank_in n) BadRank >>= λ group. give (grouped h group))
+    (λ early. bind {A = Unit {0}} h (must (nat_lt (length h.groups) 16) BadCommunicator)
+    (λ few. numbers (rank_in n) BadRank >>= λ group. give (grouped h group))
+    (λ few. bind {A = List ℕ} h (numbers (rank_in n) BadRank) (λ group. give (grouped h group))
+    (λ group. gives h (grouped h group) (grouped-grows h group early))))
 
 abbrev open_at : History → ℕ → History
 open_at h rank = record h { opened = Some rank }
@@ -146,13 +169,16 @@ issue-grows number rank issued h some = record {
 command-grows : (number : ℕ) (first : List ℕ) (h : History) → GivesMore h (command number first h)
 unfolding command
 command-grows number first h =
-    bind {A = History → ℕ → Reading Command} h (known (command_of first) UnknownCommand) (λ read. known h.opened OutOfPlace >>= λ rank. read h rank >>= λ issued. give (issue number rank issued h))
+    bind {A = History → ℕ → Reading Command} h (known (command_of first) UnknownCommand)
+    (λ read. known h.opened OutOfPlace >>= λ rank. read h rank >>= λ issued. give (issue number rank issued h))
     (λ read. known-then {A = ℕ} h h.opened OutOfPlace (λ rank. read h rank >>= λ issued. give (issue number rank issued h))
-    (λ rank some. bind {A = Command} h (read h rank) (λ issued. give (issue number rank issued h)) (λ issued. gives h (issue number rank issued h) (issue-grows number rank issued h some))))
+    (λ rank some. bind {A = Command} h (read h rank) (λ issued. give (issue number rank issued h))
+    (λ issued. gives h (issue number rank issued h) (issue-grows number rank issued h some))))
 
 later-grows : (number n : ℕ) (first : List ℕ) (h : History) → h.ranks ≡ Some n → GivesMore h (later number n first h)
 later-grows number n first h some =
-    either h (bytes_eq first (codes "ranks")) (fault OutOfPlace) (cond (bytes_eq first (codes "comm")) (comm n h) (cond (bytes_eq first (codes "rank")) (section n h) (command number first h))) (faults h OutOfPlace)
+    either h (bytes_eq first (codes "ranks")) (fault OutOfPlace)
+    (cond (bytes_eq first (codes "comm")) (comm n h) (cond (bytes_eq first (codes "rank")) (section n h) (command number first h))) (faults h OutOfPlace)
     (either h (bytes_eq first (codes "comm")) (comm n h) (cond (bytes_eq first (codes "rank")) (section n h) (command number first h)) (comm-grows n h)
     (either h (bytes_eq first (codes "rank")) (section n h) (command number first h) (section-grows n h some) (command-grows number first h)))
 
@@ -160,7 +186,8 @@ line_by-grows : (o : Option ℕ) (number : ℕ) (first : List ℕ) (h : History)
 line_by-grows None number first h is = either h (bytes_eq first (codes "ranks")) (ranks h) (fault MissingRanks) (ranks-grows h is) (faults h MissingRanks)
 line_by-grows (Some n) number first h is = later-grows number n first h is
 
-read-grows : (h next : History) (r : Result (History × List (List ℕ)) Cause) → ((x : History × List (List ℕ)) → r ≡ Ok x → Grows h x.0) → and_then r (λ read. Ok read.0) ≡ Ok next → Grows h next
+read-grows : (h next : History) (r : Result (History × List (List ℕ)) Cause)
+    → ((x : History × List (List ℕ)) → r ≡ Ok x → Grows h x.0) → and_then r (λ read. Ok read.0) ≡ Ok next → Grows h next
 read-grows h next (Ok x) each e = let same : x.0 ≡ next = cc in subst (Grows h) same (each x refl)
 read-grows h next (Err cause) each e = absurd cc
 
@@ -174,14 +201,16 @@ line-grows number h next [] e = let same : h ≡ next = cc in subst (Grows h) sa
 line-grows number h next (first ∷ words) e =
     chosen-grows h next _ _ (λ f. read-grows h next (line_by h.ranks number first h words) (line_by-grows h.ranks number first h refl words) f) e
 
-step-grows : (number : ℕ) (h last : History) (bytes : List ℕ) (lines : List (List ℕ)) (r : Result History Cause) → line number h (words_of bytes) ≡ r → ((next : History) → judged (number + 1) next lines ≡ Ok last → Grows next last)
+step-grows : (number : ℕ) (h last : History) (bytes : List ℕ) (lines : List (List ℕ)) (r : Result History Cause)
+    → line number h (words_of bytes) ≡ r → ((next : History) → judged (number + 1) next lines ≡ Ok last → Grows next last)
     → and_then (in_line number r) (λ next. judged (number + 1) next lines) ≡ Ok last → Grows h last
 step-grows number h last bytes lines (Ok next) is rest e = Grows-then h next last (line-grows number h next (words_of bytes) is) (rest next e)
 step-grows number h last bytes lines (Err cause) is rest e = absurd cc
 
 pub judged-grows : (number : ℕ) (h last : History) (lines : List (List ℕ)) → judged number h lines ≡ Ok last → Grows h last
 judged-grows number h last [] e = let same : h ≡ last = cc in subst (Grows h) same (Grows-none h)
-judged-grows number h last (bytes ∷ lines) e = step-grows number h last bytes lines (line number h (words_of bytes)) refl (λ next f. judged-grows (number + 1) next last lines f) e
+judged-grows number h last (bytes ∷ lines) e =
+    step-grows number h last bytes lines (line number h (words_of bytes)) refl (λ next f. judged-grows (number + 1) next last lines f) e
 
 -- ---- requests keep what was posted
 
@@ -199,9 +228,11 @@ one-adds : (old : List Request) (p : Request) → AddsTo old (old ++ p ∷ [])
 one-adds old p = record { more = posting_of p ∷ []; parts = map-append posting_of old (p ∷ []) }
 
 adds-then : (a b c : List Request) → AddsTo a b → AddsTo b c → AddsTo a c
-adds-then a b c x y = record { more = x.more ++ y.more; parts = y.parts ∙ ap (λ (ps : List Posting). ps ++ y.more) x.parts ∙ append_assoc (map posting_of a) x.more y.more }
+adds-then a b c x y =
+    record { more = x.more ++ y.more; parts = y.parts ∙ ap (λ (ps : List Posting). ps ++ y.more) x.parts ∙ append_assoc (map posting_of a) x.more y.more }
 
-map-changed_same : (q line : ℕ) (given : List ℕ) (requests : List Request) → map posting_of (changed_at q (started line given) requests) ≡ map posting_of requests
+map-changed_same : (q line : ℕ) (given : List ℕ) (requests : List Request)
+    → map posting_of (changed_at q (started line given) requests) ≡ map posting_of requests
 map-changed_same q line given [] = refl
 map-changed_same zero line given (p ∷ requests) = refl
 map-changed_same (suc q) line given (p ∷ requests) = ap (λ (ps : List Posting). posting_of p ∷ ps) (map-changed_same q line given requests)
@@ -217,14 +248,19 @@ after-adds groups line rank (WaitAny qs) requests = same-adds requests requests 
 after-adds groups line rank (WaitSome qs) requests = same-adds requests requests refl
 after-adds groups line rank (WaitAll qs) requests = same-adds requests requests refl
 
-fold-adds : (groups : List (List ℕ)) (issued : List IssuedCommand) (requests : List Request) → AddsTo requests (fold (λ rs t. requests_after groups t.line t.rank t.command rs) requests issued)
+fold-adds : (groups : List (List ℕ)) (issued : List IssuedCommand) (requests : List Request)
+    → AddsTo requests (fold (λ rs t. requests_after groups t.line t.rank t.command rs) requests issued)
 fold-adds groups [] requests = same-adds requests requests refl
 fold-adds groups (t ∷ issued) requests =
     let next = requests_after groups t.line t.rank t.command requests in
-    adds-then requests next (fold (λ rs u. requests_after groups u.line u.rank u.command rs) next issued) (after-adds groups t.line t.rank t.command requests) (fold-adds groups issued next)
+    adds-then requests next (fold (λ rs u. requests_after groups u.line u.rank u.command rs) next issued)
+    (after-adds groups t.line t.rank t.command requests) (fold-adds groups issued next)
 
-pub requests-add : (groups : List (List ℕ)) (rank : ℕ) (issued more : List IssuedCommand) → AddsTo (requests_of groups rank issued) (requests_of groups rank (issued ++ more))
+pub requests-add : (groups : List (List ℕ)) (rank : ℕ) (issued more : List IssuedCommand)
+    → AddsTo (requests_of groups rank issued) (requests_of groups rank (issued ++ more))
 requests-add groups rank issued more =
     let step = λ (rs : List Request) (t : IssuedCommand). requests_after groups t.line t.rank t.command rs in
     let mine = λ (t : IssuedCommand). eqb t.rank rank in
-    subst (AddsTo (requests_of groups rank issued)) (sym (ap (fold step []) (filter-append mine issued more) ∙ fold-append step [] (filter mine issued) (filter mine more))) (fold-adds groups (filter mine more) (requests_of groups rank issued))
+    subst (AddsTo (requests_of groups rank issued))
+    (sym (ap (fold step []) (filter-append mine issued more) ∙ fold-append step [] (filter mine issued) (filter mine more)))
+    (fold-adds groups (filter mine more) (requests_of groups rank issued))

@@ -41,7 +41,8 @@ module _ (q : ℕ) where
   unfolding active
   is_over true [] f each = absurd (let none : false ≡ true = f refl in cc)
   is_over false [] f each = refl
-  is_over a (c ∷ commands) f each = is_over (starts q c || (a && not (waits_for q c))) commands (back a (starts q c) (waits_for q c) (list_any (waits_for q) commands) f each.0) each.1
+  is_over a (c ∷ commands) f each =
+      is_over (starts q c || (a && not (waits_for q c))) commands (back a (starts q c) (waits_for q c) (list_any (waits_for q) commands) f each.0) each.1
 
   pub inactive-over : (commands : List Command) → may_be_active q commands ≡ false → EachStartIsOver q commands
   unfolding active

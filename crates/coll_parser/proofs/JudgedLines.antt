@@ -1,5 +1,6 @@
 -- A text is judged line by line.
-use Rattle.std.proofs.Common.{◌≡◌, ℕ, ◌+◌, ◌-◌, ◌<◌, ◌≤◌, Bool, true, false, cond, List, ◌∷◌, length, get_or, take, drop, Option, Some, None, Result, Ok, Err, refl, ap, sym, ◌∙◌, arith}
+use Rattle.std.proofs.Common.{◌≡◌, ℕ, ◌+◌, ◌-◌, ◌<◌, ◌≤◌, Bool, true, false, cond, List, ◌∷◌, length, get_or, take, drop, Option, Some, None, Result}
+use Rattle.std.proofs.Common.{Ok, Err, refl, ap, sym, ◌∙◌, arith}
 use Rattle.std.specs.Iterator.{Yields}
 use Rattle.std.proofs.lemmas.Iterator.{YieldsList}
 use Rattle.std.proofs.lemmas.Iterator.Consumers.{YieldsList-turn, YieldsList-end}
@@ -27,14 +28,16 @@ module _ {S A B : Type 0} {steps : S → Option A → S → Type 0} {v : A → B
   end_of is yields = (YieldsList-end yields xs t so_far r u is step).1
 
 -- a line that is accepted leads on to the next
-pub judged-more : (number : ℕ) (h next : History) (n : ℕ) (lines : List (List ℕ)) (bytes : List ℕ) (total : Result History Fault) → n < length lines → bytes ≡ get_or lines n bytes
+pub judged-more : (number : ℕ) (h next : History) (n : ℕ) (lines : List (List ℕ)) (bytes : List ℕ) (total : Result History Fault)
+    → n < length lines → bytes ≡ get_or lines n bytes
     → line number h (words_of bytes) ≡ Ok next → judged number h (drop n lines) ≡ total → judged (number + 1) next (drop (n + 1) lines) ≡ total
 judged-more number h next n lines bytes total lt is accepted so_far =
     let step : judged number h (bytes ∷ drop (n + 1) lines) ≡ judged (number + 1) next (drop (n + 1) lines) = rw accepted refl in
     sym step ∙ ap (judged number h) (sym (drop-more lines n bytes lt is)) ∙ so_far
 
 -- a line that isn't ends it
-pub judged-stops : (why : LineFault) (number : ℕ) (h : History) (n : ℕ) (lines : List (List ℕ)) (bytes : List ℕ) (total : Result History Fault) → n < length lines → bytes ≡ get_or lines n bytes
+pub judged-stops : (why : LineFault) (number : ℕ) (h : History) (n : ℕ) (lines : List (List ℕ)) (bytes : List ℕ) (total : Result History Fault)
+    → n < length lines → bytes ≡ get_or lines n bytes
     → FailsSo why (line number h (words_of bytes)) → judged number h (drop n lines) ≡ total → FailsText (fault_in_line number why) total
 judged-stops fault.NoMemory number h n lines bytes total lt is fails so_far = tt
 judged-stops (fault.Broken cause) number h n lines bytes total lt is fails so_far =

@@ -1,5 +1,6 @@
 -- What is kept of a section goes on to say what its commands say.
-use Rattle.std.proofs.Common.{◌≡◌, ◌≢◌, ℕ, zero, suc, ◌+◌, ◌<◌, ◌≤◌, Bool, true, false, cond, not, ◌&&◌, ◌||◌, eqb, List, [], ◌∷◌, ◌++◌, length, map, set, get_or, refl, sym, ap, ◌∙◌, arith, inl, inr}
+use Rattle.std.proofs.Common.{◌≡◌, ◌≢◌, ℕ, zero, suc, ◌+◌, ◌<◌, ◌≤◌, Bool, true, false, cond, not, ◌&&◌, ◌||◌, eqb, List, [], ◌∷◌, ◌++◌, length, map}
+use Rattle.std.proofs.Common.{set, get_or, refl, sym, ap, ◌∙◌, arith, inl, inr}
 use Rattle.std.specs.Prelude.{IfSome, Option, Some, None, slice_get, filter, nat_lt}
 use Rattle.std.specs.List.{list_any, range_with_len, AllByRecursion}
 use Rattle.std.specs.Option.{option_map}
@@ -30,7 +31,8 @@ IsKept-none section none zeroth = record {
 
 -- ---- one command more
 
-pub active-more : (q : ℕ) (commands : List Command) (c : Command) → may_be_active q (commands ++ c ∷ []) ≡ (starts q c || (may_be_active q commands && not (waits_for q c)))
+pub active-more : (q : ℕ) (commands : List Command) (c : Command)
+    → may_be_active q (commands ++ c ∷ []) ≡ (starts q c || (may_be_active q commands && not (waits_for q c)))
 active-more q commands c = fold-append _ false commands (c ∷ [])
 
 or-false : (b : Bool) → (b || false) ≡ b
@@ -67,7 +69,8 @@ active-same q commands c says = active-more q commands c ∙ rw (says.starts, sa
 freed-same : (q : ℕ) (commands : List Command) (c : Command) → frees q c ≡ false → list_any (frees q) (commands ++ c ∷ []) ≡ list_any (frees q) commands
 freed-same q commands c none = freed-more q commands c ∙ rw none (or-false (list_any (frees q) commands))
 
-later : (next waited q : ℕ) (commands : List Command) (c : Command) (p : SectionEntry) → SaysNothing q c → IsKeptOf next waited commands q p → IsKeptOf (next + 1) waited (commands ++ c ∷ []) q p
+later : (next waited q : ℕ) (commands : List Command) (c : Command) (p : SectionEntry) → SaysNothing q c
+    → IsKeptOf next waited commands q p → IsKeptOf (next + 1) waited (commands ++ c ∷ []) q p
 later next waited q commands c p says is = record {
   earlier = omega (arith, is.earlier);
   active = is.active ∙ sym (active-same q commands c says);
@@ -81,14 +84,18 @@ IfSome-weaker None P Q f h = tt
 IfSome-weaker (Some x) P Q f h = f x refl h
 
 -- what holds at each place of a list with one element set
-pub each-set : {X : Type 0} (P Q : ℕ → X → Type 0) (xs : List X) (k : ℕ) (y : X) → ((x : X) → slice_get xs k ≡ Some x → P k x → Q k y) → ((j : ℕ) (x : X) → j ≢ k → P j x → Q j x) → ((j : ℕ) → IfSome (slice_get xs j) (P j)) → (j : ℕ) → IfSome (slice_get (set xs k y) j) (Q j)
+pub each-set : {X : Type 0} (P Q : ℕ → X → Type 0) (xs : List X) (k : ℕ) (y : X)
+    → ((x : X) → slice_get xs k ≡ Some x → P k x → Q k y) → ((j : ℕ) (x : X) → j ≢ k → P j x → Q j x)
+    → ((j : ℕ) → IfSome (slice_get xs j) (P j)) → (j : ℕ) → IfSome (slice_get (set xs k y) j) (Q j)
 each-set P Q [] k y here others h j = tt
 each-set P Q (x ∷ xs) zero y here others h zero = here x refl (h zero)
 each-set P Q (x ∷ xs) zero y here others h (suc j) = IfSome-weaker (slice_get xs j) (P (suc j)) (Q (suc j)) (λ z e p. others (suc j) z (λ e. cc) p) (h (suc j))
 each-set P Q (x ∷ xs) (suc k) y here others h zero = others zero x (λ e. cc) (h zero)
-each-set P Q (x ∷ xs) (suc k) y here others h (suc j) = each-set (λ i. P (suc i)) (λ i. Q (suc i)) xs k y here (λ i z ne p. others (suc i) z (λ e. ne cc) p) (λ i. h (suc i)) j
+each-set P Q (x ∷ xs) (suc k) y here others h (suc j) =
+    each-set (λ i. P (suc i)) (λ i. Q (suc i)) xs k y here (λ i z ne p. others (suc i) z (λ e. ne cc) p) (λ i. h (suc i)) j
 
-map-set_same : {X Y : Type 0} (view : X → Y) (xs : List X) (k : ℕ) (y d : X) → k < length xs → view y ≡ view (get_or xs k d) → map view (set xs k y) ≡ map view xs
+map-set_same : {X Y : Type 0} (view : X → Y) (xs : List X) (k : ℕ) (y d : X) → k < length xs → view y ≡ view (get_or xs k d)
+    → map view (set xs k y) ≡ map view xs
 map-set_same view [] k y d lt e = refl
 map-set_same {X} {Y} view (x ∷ xs) zero y d lt e = ap (λ (v : Y). v ∷ map view xs) e
 map-set_same {X} {Y} view (x ∷ xs) (suc k) y d lt e = ap (λ (vs : List Y). view x ∷ vs) (map-set_same view xs k y d (omega arith) e)
@@ -110,8 +117,11 @@ Wait-others q j ne = record { starts = refl; waits = eqb-other q j (λ e. ne (sy
 eqb-self : (n : ℕ) → eqb n n ≡ true
 eqb-self n = eq-eqb n n refl
 
-unmade-more : (n : ℕ) (commands : List Command) (c : Command) → ((q : ℕ) → n ≤ q → SaysNothing q c) → ((q : ℕ) → n ≤ q → (may_be_active q commands ≡ false) × (list_any (frees q) commands ≡ false)) → (q : ℕ) → n ≤ q → (may_be_active q (commands ++ c ∷ []) ≡ false) × (list_any (frees q) (commands ++ c ∷ []) ≡ false)
-unmade-more n commands c says unmade q le = (active-same q commands c (says q le) ∙ (unmade q le).0, freed-same q commands c (says q le).frees ∙ (unmade q le).1)
+unmade-more : (n : ℕ) (commands : List Command) (c : Command) → ((q : ℕ) → n ≤ q → SaysNothing q c)
+    → ((q : ℕ) → n ≤ q → (may_be_active q commands ≡ false) × (list_any (frees q) commands ≡ false)) → (q : ℕ) → n ≤ q
+    → (may_be_active q (commands ++ c ∷ []) ≡ false) × (list_any (frees q) (commands ++ c ∷ []) ≡ false)
+unmade-more n commands c says unmade q le =
+    (active-same q commands c (says q le) ∙ (unmade q le).0, freed-same q commands c (says q le).frees ∙ (unmade q le).1)
 
 -- what an entry becomes: only since may change
 pub record Becomes (old new : SectionEntry) (line : ℕ) : Type 0 where
@@ -119,10 +129,13 @@ pub record Becomes (old new : SectionEntry) (line : ℕ) : Type 0 where
   pub freed : new.freed ≡ old.freed
   pub since : new.since ≡ line
 
-module _ (line q : ℕ) (commands : List Command) (section new : Section) (p d : SectionEntry) (lt : q < length section.entries.items) (is : IsKept line commands section) (waited : new.waited ≡ section.waited) (items : new.entries.items ≡ set section.entries.items q p) where
+module _ (line q : ℕ) (commands : List Command) (section new : Section) (p d : SectionEntry)
+    (lt : q < length section.entries.items) (is : IsKept line commands section) (waited : new.waited ≡ section.waited)
+    (items : new.entries.items ≡ set section.entries.items q p) where
   -- one entry is changed, by a command that says nothing of other requests
   one-kept : (c : Command) → posting c ≡ None → ((j : ℕ) → j ≢ q → SaysNothing j c) → posting_view p ≡ posting_view (get_or section.entries.items q d)
-      → ((x : SectionEntry) → slice_get section.entries.items q ≡ Some x → IsKeptOf line section.waited commands q x → IsKeptOf (line + 1) section.waited (commands ++ c ∷ []) q p)
+      → ((x : SectionEntry) → slice_get section.entries.items q ≡ Some x → IsKeptOf line section.waited commands q x
+      → IsKeptOf (line + 1) section.waited (commands ++ c ∷ []) q p)
       → IsKept (line + 1) (commands ++ c ∷ []) new
   one-kept c none says same here = record {
     posted = ap (map posting_view) items ∙ map-set_same posting_view section.entries.items q p d lt same ∙ is.posted ∙ sym (posted-more commands c none);
@@ -141,11 +154,13 @@ module _ (line q : ℕ) (commands : List Command) (section new : Section) (p d :
       one-kept (Start q given) refl (λ j ne. Start-others q j given ne) becomes.same
       (λ x at kept.
       let above : nat_lt section.waited p.since ≡ true = rw becomes.since (lt-ltb section.waited line is.earlier) in
-      let started : may_be_active q (commands ++ Start q given ∷ []) ≡ true = active-more q commands (Start q given) ∙ ap (λ b. b || (may_be_active q commands && true)) (eqb-self q) in
+      let started : may_be_active q (commands ++ Start q given ∷ []) ≡ true =
+      active-more q commands (Start q given) ∙ ap (λ b. b || (may_be_active q commands && true)) (eqb-self q) in
       record {
         earlier = omega (arith, becomes.since);
         active = above ∙ sym started;
-        freed = becomes.freed ∙ ap (λ (z : SectionEntry). z.freed) (get_or_from_slice_get section.entries.items q x d at) ∙ kept.freed ∙ sym (freed-same q commands (Start q given) refl);
+        freed = becomes.freed ∙ ap (λ (z : SectionEntry). z.freed) (get_or_from_slice_get section.entries.items q x d at)
+            ∙ kept.freed ∙ sym (freed-same q commands (Start q given) refl);
       })
 
   pub wait-kept : Becomes (get_or section.entries.items q d) p 0 → IsKept (line + 1) (commands ++ Wait q ∷ []) new
@@ -153,14 +168,17 @@ module _ (line q : ℕ) (commands : List Command) (section new : Section) (p d :
       one-kept (Wait q) refl (λ j ne. Wait-others q j ne) becomes.same
       (λ x at kept.
       let below : nat_lt section.waited p.since ≡ false = rw becomes.since (le-ltb section.waited 0 (omega arith)) in
-      let waited_for : may_be_active q (commands ++ Wait q ∷ []) ≡ false = active-more q commands (Wait q) ∙ ap (λ b. may_be_active q commands && not b) (eqb-self q) ∙ and-false (may_be_active q commands) in
+      let waited_for : may_be_active q (commands ++ Wait q ∷ []) ≡ false =
+      active-more q commands (Wait q) ∙ ap (λ b. may_be_active q commands && not b) (eqb-self q) ∙ and-false (may_be_active q commands) in
       record {
         earlier = omega (arith, becomes.since);
         active = below ∙ sym waited_for;
-        freed = becomes.freed ∙ ap (λ (z : SectionEntry). z.freed) (get_or_from_slice_get section.entries.items q x d at) ∙ kept.freed ∙ sym (freed-same q commands (Wait q) refl);
+        freed = becomes.freed ∙ ap (λ (z : SectionEntry). z.freed) (get_or_from_slice_get section.entries.items q x d at)
+            ∙ kept.freed ∙ sym (freed-same q commands (Wait q) refl);
       })
 
-  pub free-kept : posting_view p ≡ posting_view (get_or section.entries.items q d) → p.since ≡ (get_or section.entries.items q d).since → p.freed ≡ true → IsKept (line + 1) (commands ++ Free q ∷ []) new
+  pub free-kept : posting_view p ≡ posting_view (get_or section.entries.items q d)
+      → p.since ≡ (get_or section.entries.items q d).since → p.freed ≡ true → IsKept (line + 1) (commands ++ Free q ∷ []) new
   free-kept same since freed =
       one-kept (Free q) refl (λ j ne. Free-others q j ne) same
       (λ x at kept.
@@ -199,7 +217,8 @@ wait_all-kept line commands section is =
           let known : q < n = slice_get_within section.entries.items q p at in
           record {
             earlier = omega (arith, kept.earlier);
-            active = le-ltb line p.since (omega (arith, kept.earlier)) ∙ sym (active-more q commands c ∙ rw (is_among-range 0 n q (omega arith) (omega arith)) (and-false (may_be_active q commands)));
+            active = le-ltb line p.since (omega (arith, kept.earlier))
+                ∙ sym (active-more q commands c ∙ rw (is_among-range 0 n q (omega arith) (omega arith)) (and-false (may_be_active q commands)));
             freed = kept.freed ∙ sym (freed-same q commands c refl);
           })
           (is.each q);
@@ -208,7 +227,8 @@ wait_all-kept line commands section is =
 
 -- ---- a command that says nothing of any request
 
-pub nothing-kept : (line : ℕ) (commands : List Command) (section : Section) (c : Command) → posting c ≡ None → ((q : ℕ) → SaysNothing q c) → IsKept line commands section → IsKept (line + 1) (commands ++ c ∷ []) section
+pub nothing-kept : (line : ℕ) (commands : List Command) (section : Section) (c : Command) → posting c ≡ None
+    → ((q : ℕ) → SaysNothing q c) → IsKept line commands section → IsKept (line + 1) (commands ++ c ∷ []) section
 nothing-kept line commands section c none says is = record {
   posted = is.posted ∙ sym (posted-more commands c none);
   earlier = omega (arith, is.earlier);
@@ -231,31 +251,36 @@ posting-says q (WaitAny qs) p e = absurd cc
 posting-says q (WaitSome qs) p e = absurd cc
 posting-says q (WaitAll qs) p e = absurd cc
 
-each-push : {X : Type 0} (P Q : ℕ → X → Type 0) (xs : List X) (y : X) → ((i : ℕ) (x : X) → P i x → Q i x) → Q (length xs) y → ((i : ℕ) → IfSome (slice_get xs i) (P i)) → (i : ℕ) → IfSome (slice_get (xs ++ y ∷ []) i) (Q i)
+each-push : {X : Type 0} (P Q : ℕ → X → Type 0) (xs : List X) (y : X) → ((i : ℕ) (x : X) → P i x → Q i x) → Q (length xs) y
+    → ((i : ℕ) → IfSome (slice_get xs i) (P i)) → (i : ℕ) → IfSome (slice_get (xs ++ y ∷ []) i) (Q i)
 each-push P Q [] y weaker here each zero = here
 each-push P Q [] y weaker here each (suc i) = tt
 each-push P Q (x ∷ xs) y weaker here each zero = weaker 0 x (each 0)
 each-push P Q (x ∷ xs) y weaker here each (suc i) = each-push (λ k. P (suc k)) (λ k. Q (suc k)) xs y (λ k z p. weaker (suc k) z p) here (λ k. each (suc k)) i
 
-pub made-kept : (line : ℕ) (commands : List Command) (section new : Section) (c : Command) (p : SectionEntry) → posting c ≡ Some (posting_view p) → p.since ≡ 0 → p.freed ≡ false → new.waited ≡ section.waited → new.entries.items ≡ section.entries.items ++ p ∷ []
+pub made-kept : (line : ℕ) (commands : List Command) (section new : Section) (c : Command) (p : SectionEntry)
+    → posting c ≡ Some (posting_view p) → p.since ≡ 0 → p.freed ≡ false → new.waited ≡ section.waited → new.entries.items ≡ section.entries.items ++ p ∷ []
     → IsKept line commands section → IsKept (line + 1) (commands ++ c ∷ []) new
 made-kept line commands section new c p posts since freed waited items is =
     let n = length section.entries.items in
     let says : (q : ℕ) → SaysNothing q c = λ q. posting-says q c (posting_view p) posts in
     let grown : postings (commands ++ c ∷ []) ≡ postings commands ++ posting_view p ∷ [] = filter_map-append posting commands (c ∷ []) ∙ rw posts refl in
     record {
-      posted = ap (map posting_view) items ∙ map-append posting_view section.entries.items (p ∷ []) ∙ ap (λ (ps : List Posting). ps ++ posting_view p ∷ []) is.posted ∙ sym grown;
+      posted = ap (map posting_view) items ∙ map-append posting_view section.entries.items (p ∷ [])
+          ∙ ap (λ (ps : List Posting). ps ++ posting_view p ∷ []) is.posted ∙ sym grown;
       earlier = omega (arith, is.earlier, waited);
       each = rw (items, waited)
           (each-push (IsKeptOf line section.waited commands) (IsKeptOf (line + 1) section.waited (commands ++ c ∷ [])) section.entries.items p
           (λ q x kept. later line section.waited q commands c x (says q) kept)
           (record {
             earlier = omega (arith, since);
-            active = ap (λ m. nat_lt section.waited m) since ∙ le-ltb section.waited 0 (omega arith) ∙ sym (active-same n commands c (says n) ∙ (is.unmade n (omega arith)).0);
+            active = ap (λ m. nat_lt section.waited m) since ∙ le-ltb section.waited 0 (omega arith)
+                ∙ sym (active-same n commands c (says n) ∙ (is.unmade n (omega arith)).0);
             freed = freed ∙ sym (freed-same n commands c (says n).frees ∙ (is.unmade n (omega arith)).1);
           })
           is.each);
-      unmade = λ q le. unmade-more n commands c (λ k far. says k) is.unmade q (omega (arith, le, ap length items, length-append section.entries.items (p ∷ [])));
+      unmade = λ q le. unmade-more n commands c (λ k far. says k) is.unmade q
+          (omega (arith, le, ap length items, length-append section.entries.items (p ∷ [])));
     }
 
 -- ---- a wait for several requests
@@ -272,19 +297,22 @@ waited-posting : (b : Bool) (p : SectionEntry) → posting_view (cond b (record 
 waited-posting true p = refl
 waited-posting false p = refl
 
-map-pointwise : {X Y : Type 0} (view : X → Y) (f : ℕ → X → X) (old new : List X) → ((k : ℕ) (x : X) → view (f k x) ≡ view x) → ((q : ℕ) → slice_get new q ≡ option_map (f q) (slice_get old q)) → map view new ≡ map view old
+map-pointwise : {X Y : Type 0} (view : X → Y) (f : ℕ → X → X) (old new : List X) → ((k : ℕ) (x : X) → view (f k x) ≡ view x)
+    → ((q : ℕ) → slice_get new q ≡ option_map (f q) (slice_get old q)) → map view new ≡ map view old
 map-pointwise view f [] [] same each = refl
 map-pointwise view f [] (y ∷ new) same each = absurd (let none : Some y ≡ None = each 0 in cc)
 map-pointwise view f (x ∷ old) [] same each = absurd (let none : None ≡ Some (f 0 x) = each 0 in cc)
 map-pointwise {X} {Y} view f (x ∷ old) (y ∷ new) same each =
     let first : Some y ≡ Some (f 0 x) = each 0 in
     let here : y ≡ f 0 x = cc in
-    ap (λ (v : Y). v ∷ map view new) (ap view here ∙ same 0 x) ∙ ap (λ (vs : List Y). view x ∷ vs) (map-pointwise view (λ k. f (suc k)) old new (λ k z. same (suc k) z) (λ k. each (suc k)))
+    ap (λ (v : Y). v ∷ map view new) (ap view here ∙ same 0 x)
+    ∙ ap (λ (vs : List Y). view x ∷ vs) (map-pointwise view (λ k. f (suc k)) old new (λ k z. same (suc k) z) (λ k. each (suc k)))
 
 WaitAll-says : (q : ℕ) (qs : List ℕ) → is_among q qs ≡ false → SaysNothing q (WaitAll qs)
 WaitAll-says q qs none = record { starts = refl; waits = none; frees = refl }
 
-waited-entry : (line waited q : ℕ) (commands : List Command) (qs : List ℕ) (p : SectionEntry) (b : Bool) → is_among q qs ≡ b → IsKeptOf line waited commands q p → IsKeptOf (line + 1) waited (commands ++ WaitAll qs ∷ []) q (cond b (record p { since = 0 }) p)
+waited-entry : (line waited q : ℕ) (commands : List Command) (qs : List ℕ) (p : SectionEntry) (b : Bool) → is_among q qs ≡ b
+    → IsKeptOf line waited commands q p → IsKeptOf (line + 1) waited (commands ++ WaitAll qs ∷ []) q (cond b (record p { since = 0 }) p)
 waited-entry line waited q commands qs p true named kept = record {
   earlier = omega arith;
   active = le-ltb waited 0 (omega arith) ∙ sym (active-more q commands (WaitAll qs) ∙ rw named (and-false (may_be_active q commands)));
@@ -300,16 +328,20 @@ among-below : (n q : ℕ) (qs : List ℕ) → AllByRecursion (λ k. k < n) qs �
 among-below n q [] are le = refl
 among-below n q (k ∷ qs) are le = rw (ne_eqb k q (λ e. omega (arith, e, are.0, le))) (among-below n q qs are.1 le)
 
-pub wait_each-kept : (line : ℕ) (commands : List Command) (section new : Section) (qs : List ℕ) → AllByRecursion (λ q. q < length section.entries.items) qs → new.waited ≡ section.waited → AreWaited qs section.entries.items new.entries.items
+pub wait_each-kept : (line : ℕ) (commands : List Command) (section new : Section) (qs : List ℕ)
+    → AllByRecursion (λ q. q < length section.entries.items) qs → new.waited ≡ section.waited → AreWaited qs section.entries.items new.entries.items
     → IsKept line commands section → IsKept (line + 1) (commands ++ WaitAll qs ∷ []) new
 wait_each-kept line commands section new qs below waited are is = record {
-  posted = map-pointwise posting_view (waited_by qs) section.entries.items new.entries.items (λ k p. waited-posting (is_among k qs) p) are.1 ∙ is.posted ∙ sym (posted-more commands (WaitAll qs) refl);
+  posted = map-pointwise posting_view (waited_by qs) section.entries.items new.entries.items (λ k p. waited-posting (is_among k qs) p) are.1
+      ∙ is.posted ∙ sym (posted-more commands (WaitAll qs) refl);
   earlier = omega (arith, is.earlier, waited);
   each = λ q.
       rw (are.1 q, waited)
-      (IfSome-option_map (waited_by qs q) (slice_get section.entries.items q) (IsKeptOf line section.waited commands q) (IsKeptOf (line + 1) section.waited (commands ++ WaitAll qs ∷ []) q)
+      (IfSome-option_map (waited_by qs q) (slice_get section.entries.items q) (IsKeptOf line section.waited commands q)
+      (IsKeptOf (line + 1) section.waited (commands ++ WaitAll qs ∷ []) q)
       (λ p kept. waited-entry line section.waited q commands qs p (is_among q qs) refl kept) (is.each q));
-  unmade = λ q le. unmade-more (length section.entries.items) commands (WaitAll qs) (λ k far. WaitAll-says k qs (among-below (length section.entries.items) k qs below far)) is.unmade q (omega (arith, le, are.0));
+  unmade = λ q le. unmade-more (length section.entries.items) commands (WaitAll qs)
+      (λ k far. WaitAll-says k qs (among-below (length section.entries.items) k qs below far)) is.unmade q (omega (arith, le, are.0));
 }
 
 -- ---- all sections
@@ -328,9 +360,13 @@ kept-later next commands section is = record {
 pub issued-own : (issued : List IssuedCommand) (t : IssuedCommand) → issued_by t.rank (issued ++ t ∷ []) ≡ issued_by t.rank issued ++ t.command ∷ []
 issued-own issued t =
     let own : filter (λ u. eqb u.rank t.rank) (t ∷ []) ≡ t ∷ [] = rw (eqb-self t.rank) refl in
-    ap (map (λ (u : IssuedCommand). u.command)) (filter-append (λ u. eqb u.rank t.rank) issued (t ∷ []) ∙ ap (λ (us : List IssuedCommand). filter (λ u. eqb u.rank t.rank) issued ++ us) own) ∙ map-append _ (filter (λ u. eqb u.rank t.rank) issued) (t ∷ [])
+    ap (map (λ (u : IssuedCommand). u.command))
+    (filter-append (λ u. eqb u.rank t.rank) issued (t ∷ []) ∙ ap (λ (us : List IssuedCommand). filter (λ u. eqb u.rank t.rank) issued ++ us) own)
+    ∙ map-append _ (filter (λ u. eqb u.rank t.rank) issued) (t ∷ [])
 
 pub issued-other : (rank : ℕ) (issued : List IssuedCommand) (t : IssuedCommand) → rank ≢ t.rank → issued_by rank (issued ++ t ∷ []) ≡ issued_by rank issued
 issued-other rank issued t ne =
     let other : filter (λ u. eqb u.rank rank) (t ∷ []) ≡ [] = rw (ne_eqb t.rank rank (λ e. ne (sym e))) refl in
-    ap (map (λ (u : IssuedCommand). u.command)) (filter-append (λ u. eqb u.rank rank) issued (t ∷ []) ∙ ap (λ (us : List IssuedCommand). filter (λ u. eqb u.rank rank) issued ++ us) other ∙ append-nil _)
+    ap (map (λ (u : IssuedCommand). u.command))
+    (filter-append (λ u. eqb u.rank rank) issued (t ∷ [])
+    ∙ ap (λ (us : List IssuedCommand). filter (λ u. eqb u.rank rank) issued ++ us) other ∙ append-nil _)

@@ -30,7 +30,8 @@ module _ (number rank n : ℕ) (h : History) (ranks : h.ranks ≡ Some n) (opene
 
   some-again : (qs : List ℕ) → IsSome qs → MayName h rank qs → some h rank (map decimal qs) ≡ Ok (qs, [])
   some-again [] one may = absurd one
-  some-again (q ∷ qs) one may = ap (λ (r : Result (List ℕ) Cause). and_then r (λ ns. Ok (ns, []))) (numbers-again (length (made h rank)) [] (q ∷ qs) may.0 may.1)
+  some-again (q ∷ qs) one may =
+      ap (λ (r : Result (List ℕ) Cause). and_then r (λ ns. Ok (ns, []))) (numbers-again (length (made h rank)) [] (q ∷ qs) may.0 may.1)
 
   all-again : (qs : List ℕ) → IsSome qs → MayName h rank qs → all h rank (map decimal qs) ≡ Ok (qs, [])
   all-again [] one may = absurd one
@@ -54,29 +55,42 @@ module _ (number rank n : ℕ) (h : History) (ranks : h.ranks ≡ Some n) (opene
 
   startable-again : (q : ℕ) (p : Posting) (rest : List (List ℕ)) → MayStart h rank q p → startable h rank (decimal q ∷ rest) ≡ Ok ((q, p), rest)
   unfolding startable
-  startable-again q p rest may = rw (request-again (length (made h rank)) q may.small (slice_get_within (made h rank) q p may.posted), may.posted, may.startable) refl
+  startable-again q p rest may =
+      rw (request-again (length (made h rank)) q may.small (slice_get_within (made h rank) q p may.posted), may.posted, may.startable) refl
 
   pub free-line : (q : ℕ) (p : Posting) → MayStart h rank q p → line number h (codes "free" ∷ decimal q ∷ []) ≡ Ok (issue number rank (Free q) h)
   unfolding line command free startable
   free-line q p may = rw (ranks, opened, startable-again q p [] may) refl
 
-  pub start-line : (q : ℕ) (p : Posting) (elements : List Element) (given : List ℕ) → MayStart h rank q p → AreValues p.sig.ty (due h.groups rank p.comm p.sig / width p.sig.ty) elements given
+  pub start-line : (q : ℕ) (p : Posting) (elements : List Element) (given : List ℕ) → MayStart h rank q p
+      → AreValues p.sig.ty (due h.groups rank p.comm p.sig / width p.sig.ty) elements given
       → line number h (codes "start" ∷ decimal q ∷ value_words elements) ≡ Ok (issue number rank (Start q given) h)
   unfolding line command start startable
   start-line q p elements given may are =
-      rw (ranks, opened, startable-again q p (value_words elements) may, values-again p.sig.ty (due h.groups rank p.comm p.sig / width p.sig.ty) elements given are) refl
+      rw (
+        ranks,
+        opened,
+        startable-again q p (value_words elements) may,
+        values-again p.sig.ty (due h.groups rank p.comm p.sig / width p.sig.ty) elements given are,
+      ) refl
 
-  communicator-again : (mode : Mode) (comm : ℕ) (sig : Signature) (rest : List (List ℕ)) → MayPost h rank mode comm sig → communicator h.groups rank (decimal comm ∷ rest) ≡ Ok (comm, rest)
+  communicator-again : (mode : Mode) (comm : ℕ) (sig : Signature) (rest : List (List ℕ)) → MayPost h rank mode comm sig
+      → communicator h.groups rank (decimal comm ∷ rest) ≡ Ok (comm, rest)
   communicator-again mode comm sig rest may = rw (number-again comm may.small, may.known, may.is_member) refl
 
-  sig-again : (mode : Mode) (comm : ℕ) (sig : Signature) (rest : List (List ℕ)) → MayPost h rank mode comm sig → signature mode (length (group_of h.groups comm)) (signature_words (members h comm) sig ++ rest) ≡ Ok (sig, rest)
+  sig-again : (mode : Mode) (comm : ℕ) (sig : Signature) (rest : List (List ℕ)) → MayPost h rank mode comm sig
+      → signature mode (length (group_of h.groups comm)) (signature_words (members h comm) sig ++ rest) ≡ Ok (sig, rest)
   sig-again mode comm sig rest may =
-      let checked : broken sig (length (group_of h.groups comm)) ≡ None = ap (λ (g : List ℕ). broken sig (length g)) (get_or_from_slice_get h.groups comm may.group [] may.known) ∙ may.checked in
-      let here : signature sig.mode (length (group_of h.groups comm)) (signature_words (members h comm) sig ++ rest) ≡ Ok (sig, rest) = signature-again sig (length (group_of h.groups comm)) rest may.words checked in
+      let checked : broken sig (length (group_of h.groups comm)) ≡ None =
+      ap (λ (g : List ℕ). broken sig (length g)) (get_or_from_slice_get h.groups comm may.group [] may.known) ∙ may.checked in
+      let here : signature sig.mode (length (group_of h.groups comm)) (signature_words (members h comm) sig ++ rest) ≡ Ok (sig, rest) =
+      signature-again sig (length (group_of h.groups comm)) rest may.words checked in
       subst (λ (m : Mode). signature m (length (group_of h.groups comm)) (signature_words (members h comm) sig ++ rest) ≡ Ok (sig, rest)) may.mode_is here
 
-  pub post-line : (comm : ℕ) (sig : Signature) (elements : List Element) (given : List ℕ) → MayPost h rank Once comm sig → AreValues sig.ty (due h.groups rank comm sig / width sig.ty) elements given
-      → line number h (codes "post" ∷ decimal comm ∷ (signature_words (members h comm) sig ++ value_words elements)) ≡ Ok (issue number rank (Post comm sig given) h)
+  pub post-line : (comm : ℕ) (sig : Signature) (elements : List Element) (given : List ℕ) → MayPost h rank Once comm sig
+      → AreValues sig.ty (due h.groups rank comm sig / width sig.ty) elements given
+      → line number h (codes "post" ∷ decimal comm ∷ (signature_words (members h comm) sig ++ value_words elements))
+      ≡ Ok (issue number rank (Post comm sig given) h)
   unfolding line command post
   post-line comm sig elements given may are =
       let room : nat_lt (total h.commands) 4096 ≡ true = lt-ltb (total h.commands) 4096 may.room in
@@ -89,12 +103,14 @@ module _ (number rank n : ℕ) (h : History) (ranks : h.ranks ≡ Some n) (opene
         room,
       ) refl
 
-  pub init-line : (comm : ℕ) (sig : Signature) → MayPost h rank Persistent comm sig → line number h (codes "init" ∷ decimal comm ∷ signature_words (members h comm) sig) ≡ Ok (issue number rank (Init comm sig) h)
+  pub init-line : (comm : ℕ) (sig : Signature) → MayPost h rank Persistent comm sig
+      → line number h (codes "init" ∷ decimal comm ∷ signature_words (members h comm) sig) ≡ Ok (issue number rank (Init comm sig) h)
   unfolding line command init
   init-line comm sig may =
       let room : nat_lt (total h.commands) 4096 ≡ true = lt-ltb (total h.commands) 4096 may.room in
       let sig-is : signature Persistent (length (group_of h.groups comm)) (signature_words (members h comm) sig) ≡ Ok (sig, []) =
-      ap (signature Persistent (length (group_of h.groups comm))) (sym (append-nil (signature_words (members h comm) sig))) ∙ sig-again Persistent comm sig [] may in
+      ap (signature Persistent (length (group_of h.groups comm))) (sym (append-nil (signature_words (members h comm) sig)))
+      ∙ sig-again Persistent comm sig [] may in
       rw (ranks, opened, communicator-again Persistent comm sig (signature_words (members h comm) sig) may, sig-is, room) refl
 
   -- what is written is read

@@ -1,5 +1,7 @@
 -- A command that is accepted could have been written: the words that write it.
-use Rattle.std.proofs.Common.{◌≡◌, ℕ, zero, suc, ◌+◌, ◌-◌, ◌/◌, ◌^◌, ◌<◌, ◌≤◌, Bool, true, false, cond, ltb, leb, eqb, List, [], ◌∷◌, ◌++◌, length, take, drop, replicate, map, Option, Some, None, Result, Ok, Err, refl, sym, ap, subst, ◌∙◌, append_assoc, arith, inl, inr}
+use Rattle.std.proofs.Common.{◌≡◌, ℕ, zero, suc, ◌+◌, ◌-◌, ◌/◌, ◌^◌, ◌<◌, ◌≤◌, Bool, true, false, cond, ltb, leb, eqb, List, [], ◌∷◌, ◌++◌, length}
+use Rattle.std.proofs.Common.{take, drop, replicate, map, Option, Some, None, Result, Ok, Err, refl, sym, ap, subst, ◌∙◌, append_assoc, arith, inl}
+use Rattle.std.proofs.Common.{inr}
 use Rattle.std.specs.Prelude.{ℤ, pos, MatchBool, codes, decimal, flat_map, is_some, is_none, ok_or, unwrap_or, option_and_then, ◌&&◌, ◌||◌, IsTrue}
 use Rattle.std.specs.Option.{option_map}
 use Rattle.std.specs.List.{AllByRecursion, list_all, position, range_with_len}
@@ -15,7 +17,8 @@ use Rattle.coll_kinds.specs.declared.kind.Mode.{Mode}
 use Rattle.coll_kinds.specs.declared.kind.Mode.TheVariants.{Once, Persistent}
 use Rattle.coll_kinds.specs.declared.operation.Op.{Op}
 use Rattle.coll_kinds.specs.declared.signature.Signature.{Signature}
-use Rattle.coll_kinds.specs.Common.{has_root, has_operation, is_barrier, has_counts, broken, max_ranks, Element, whole, pair, width, is_pair, in_range, element_bytes, IsElement, is_among, number_in, pair_of, value_of, kind_of, operation_of, datatype_of}
+use Rattle.coll_kinds.specs.Common.{has_root, has_operation, is_barrier, has_counts, broken, max_ranks, Element, whole, pair, width, is_pair}
+use Rattle.coll_kinds.specs.Common.{in_range, element_bytes, IsElement, is_among, number_in, pair_of, value_of, kind_of, operation_of, datatype_of}
 use Rattle.coll_kinds.specs.Texts.{number_of, whole_number_of}
 use Rattle.coll_parser.specs.declared.cause.Cause.{Cause}
 use Rattle.coll_parser.specs.declared.cause.Cause.TheVariants.{BadSignature, BadValue, WrongValueCount, NamedTwice}
@@ -23,10 +26,14 @@ use Rattle.coll_parser.specs.declared.command.Command.{Command}
 use Rattle.coll_parser.specs.declared.command.Command.TheVariants.{Post, Init, Start, Wait, Test, Free, WaitAny, WaitSome, WaitAll}
 use Rattle.coll_parser.specs.Reading.{Reading, and_then, ◌>>=◌, give, must, end, numbers_from, numbers}
 use Rattle.coll_parser.specs.Histories.{History, Posting, group_of, total}
-use Rattle.coll_parser.specs.Lines.{number_within, request_in, next, communicator, count_in, counts_from, counts, some_counts, fields, signature, due, colon, values, room, post, init, made, startable, start, free, one, some, all, wait, test, waitany, waitsome, waitall, command_of}
+use Rattle.coll_parser.specs.Lines.{number_within, request_in, next, communicator, count_in, counts_from, counts, some_counts, fields, signature, due}
+use Rattle.coll_parser.specs.Lines.{colon, values, room, post, init, made, startable, start, free, one, some, all, wait, test, waitany, waitsome}
+use Rattle.coll_parser.specs.Lines.{waitall, command_of}
 use Rattle.coll_parser.specs.Sound.{IsPosting}
-use Rattle.coll_parser.specs.Writing.{AreValues, value_words, signature_words, AreCounts, HasWords, members, MayPost, MayStart, IsMade, NoneTwice, MayName, IsSome, Writes}
-use Rattle.coll_parser.proofs.Allowed.{then-is, bind-is, must-is, room-is, communicator-is, signature-checked, one-below, twice-not, next-is, request-below, startable-is}
+use Rattle.coll_parser.specs.Writing.{AreValues, value_words, signature_words, AreCounts, HasWords, members, MayPost, MayStart, IsMade, NoneTwice}
+use Rattle.coll_parser.specs.Writing.{MayName, IsSome, Writes}
+use Rattle.coll_parser.proofs.Allowed.{then-is, bind-is, must-is, room-is, communicator-is, signature-checked, one-below, twice-not, next-is}
+use Rattle.coll_parser.proofs.Allowed.{request-below, startable-is}
 use Rattle.coll_parser.proofs.Readers.{count-le}
 
 -- ---- what a history keeps, so that its numbers can be written
@@ -69,9 +76,11 @@ free-of : {A : Type 0} (b : Bool) (cause : Cause) (r : Result A Cause) (a : A) �
 free-of true cause r a e = absurd cc
 free-of false cause r a e = refl
 
-numbers-read : (P : ℕ → Type 0) (read : List ℕ → Result ℕ Cause) (twice : Cause) → ((w : List ℕ) (n : ℕ) → read w ≡ Ok n → P n) → (before : List ℕ) (words : List (List ℕ)) (all : List ℕ)
+numbers-read : (P : ℕ → Type 0) (read : List ℕ → Result ℕ Cause) (twice : Cause) → ((w : List ℕ) (n : ℕ) → read w ≡ Ok n → P n)
+    → (before : List ℕ) (words : List (List ℕ)) (all : List ℕ)
     → numbers_from read twice before words ≡ Ok all → AreRead P before all
-numbers-read P read twice each before [] all e = let same : before ≡ all = cc in record { more = []; parts = sym same ∙ sym (append-nil before); each = tt; differ = tt }
+numbers-read P read twice each before [] all e = let same : before ≡ all =
+    cc in record { more = []; parts = sym same ∙ sym (append-nil before); each = tt; differ = tt }
 numbers-read P read twice each before (w ∷ words) all e =
     let one = then-is (read w) (λ n. cond (is_among n before) (Err twice) (numbers_from read twice (before ++ n ∷ []) words)) all e in
     let n = one.0 in
@@ -87,7 +96,8 @@ numbers-read P read twice each before (w ∷ words) all e =
 abbrev pub AreNumbers : (ℕ → Type 0) → List ℕ → Type 0
 AreNumbers P ns = IsSome ns × AllByRecursion P ns × NoneTwice [] ns
 
-pub numbers-are : (P : ℕ → Type 0) (read : List ℕ → Result ℕ Cause) (twice : Cause) → ((w : List ℕ) (n : ℕ) → read w ≡ Ok n → P n) → (words : List (List ℕ)) (a : List ℕ × List (List ℕ))
+pub numbers-are : (P : ℕ → Type 0) (read : List ℕ → Result ℕ Cause) (twice : Cause)
+    → ((w : List ℕ) (n : ℕ) → read w ≡ Ok n → P n) → (words : List (List ℕ)) (a : List ℕ × List (List ℕ))
     → numbers read twice words ≡ Ok a → AreNumbers P a.0
 numbers-are P read twice each [] a e = absurd cc
 numbers-are P read twice each (w ∷ words) a e =
@@ -122,18 +132,22 @@ whole-is : (ty : Datatype) → is_pair ty ≡ false → (o : Option ℤ) → Are
 whole-is ty plain None ranged e is = absurd cc
 whole-is ty plain (Some z) ranged e is = let same : whole z ≡ e = cc in subst (IsElement ty) same (rw (plain, ranged z refl) refl)
 
-pair-is : (ty : Datatype) → is_pair ty ≡ true → (value index : Option ℤ) → AreRanged I32 value → AreRanged I32 index → (e : Element) → option_and_then (λ z. option_map (pair z) index) value ≡ Some e → IsElement ty e
+pair-is : (ty : Datatype) → is_pair ty ≡ true → (value index : Option ℤ) → AreRanged I32 value → AreRanged I32 index
+    → (e : Element) → option_and_then (λ z. option_map (pair z) index) value ≡ Some e → IsElement ty e
 pair-is ty two None index first second e is = absurd cc
 pair-is ty two (Some z) None first second e is = absurd cc
 pair-is ty two (Some z) (Some at) first second e is = let same : pair z at ≡ e = cc in subst (IsElement ty) same (rw (two, first z refl, second at refl) refl)
 
 pair-from : (ty : Datatype) → is_pair ty ≡ true → (word : List ℕ) (comma : Option ℕ) (e : Element)
-    → option_and_then (λ comma. option_and_then (λ z. option_map (pair z) (number_in I32 (drop (comma + 1) word))) (number_in I32 (take comma word))) comma ≡ Some e → IsElement ty e
+    → option_and_then (λ comma. option_and_then (λ z. option_map (pair z) (number_in I32 (drop (comma + 1) word))) (number_in I32 (take comma word))) comma
+    ≡ Some e → IsElement ty e
 pair-from ty two word None e is = absurd cc
 pair-from ty two word (Some comma) e is =
-    pair-is ty two (number_in I32 (take comma word)) (number_in I32 (drop (comma + 1) word)) (number-ranged I32 (take comma word)) (number-ranged I32 (drop (comma + 1) word)) e is
+    pair-is ty two (number_in I32 (take comma word)) (number_in I32 (drop (comma + 1) word))
+    (number-ranged I32 (take comma word)) (number-ranged I32 (drop (comma + 1) word)) e is
 
-element-from : (ty : Datatype) (b : Bool) → is_pair ty ≡ b → (word : List ℕ) (e : Element) → cond b (pair_of word) (option_map whole (number_in ty word)) ≡ Some e → IsElement ty e
+element-from : (ty : Datatype) (b : Bool) → is_pair ty ≡ b → (word : List ℕ) (e : Element)
+    → cond b (pair_of word) (option_map whole (number_in ty word)) ≡ Some e → IsElement ty e
 element-from ty true two word e is = pair-from ty two word (position (λ c. eqb c 44) word) e is
 element-from ty false plain word e is = whole-is ty plain (number_in ty word) (number-ranged ty word) e is
 
@@ -144,13 +158,15 @@ unwrapped : (ty : Datatype) (o : Option Element) → is_some o ≡ true → ((e 
 unwrapped ty None is f = absurd cc
 unwrapped ty (Some e) is f = f e refl
 
-elements-are : (ty : Datatype) (words : List (List ℕ)) → list_all (λ w. is_some (value_of ty w)) words ≡ true → AllByRecursion (IsElement ty) (map (element_of ty) words)
+elements-are : (ty : Datatype) (words : List (List ℕ)) → list_all (λ w. is_some (value_of ty w)) words ≡ true
+    → AllByRecursion (IsElement ty) (map (element_of ty) words)
 elements-are ty [] e = tt
 elements-are ty (w ∷ words) e =
     let parts = and_parts (is_some (value_of ty w)) (list_all (λ v. is_some (value_of ty v)) words) e in
     (unwrapped ty (value_of ty w) parts.0 (element-some ty w), elements-are ty words parts.1)
 
-bytes-map : (ty : Datatype) (words : List (List ℕ)) → flat_map (λ w. element_bytes ty (element_of ty w)) words ≡ flat_map (element_bytes ty) (map (element_of ty) words)
+bytes-map : (ty : Datatype) (words : List (List ℕ))
+    → flat_map (λ w. element_bytes ty (element_of ty w)) words ≡ flat_map (element_bytes ty) (map (element_of ty) words)
 bytes-map ty [] = refl
 bytes-map ty (w ∷ words) =
     flat_map-cons (λ v. element_bytes ty (element_of ty v)) w words ∙ ap (λ (bytes : List ℕ). element_bytes ty (element_of ty w) ++ bytes) (bytes-map ty words)
@@ -164,9 +180,13 @@ values-given : (count : ℕ) (ty : Datatype) (words : List (List ℕ)) (a : List
 unfolding values
 values-given count ty words a e =
     let bytes = λ (w : List ℕ). element_bytes ty (unwrap_or (value_of ty w) (whole (pos 0))) in
-    let first = bind-is (colon count) (λ ws. must (eqb (length ws) count) WrongValueCount >>= λ counted. must (list_all (λ w. is_some (value_of ty w)) ws) BadValue >>= λ valued. give (flat_map bytes ws)) words a e in
+    let first = bind-is (colon count)
+    (λ ws. must (eqb (length ws) count) WrongValueCount >>= λ counted. must (list_all (λ w. is_some (value_of ty w)) ws)
+    BadValue >>= λ valued. give (flat_map bytes ws)) words a e in
     let ws = first.0.0 in
-    let second = bind-is (must (eqb (length ws) count) WrongValueCount) (λ counted. must (list_all (λ w. is_some (value_of ty w)) ws) BadValue >>= λ valued. give (flat_map bytes ws)) first.0.1 a first.2 in
+    let second =
+    bind-is (must (eqb (length ws) count) WrongValueCount)
+    (λ counted. must (list_all (λ w. is_some (value_of ty w)) ws) BadValue >>= λ valued. give (flat_map bytes ws)) first.0.1 a first.2 in
     let third = bind-is (must (list_all (λ w. is_some (value_of ty w)) ws) BadValue) (λ valued. give (flat_map bytes ws)) second.0.1 a second.2 in
     let counted : length ws ≡ count = eqb-true _ _ (must-is _ WrongValueCount first.0.1 second.0 second.1) in
     let given : flat_map bytes ws ≡ a.0 = cc in
@@ -175,11 +195,14 @@ values-given count ty words a e =
 
 -- ---- signatures
 
-root-is : (b : Bool) (words : List (List ℕ)) (a : ℕ × List (List ℕ)) → cond b (next (λ w. ok_or (number_within 0 256 w) BadSignature)) (give 0) words ≡ Ok a → MatchBool b (a.0 < 256) (a.0 ≡ 0)
-root-is true words a e = let read = next-is (λ w. ok_or (number_within 0 256 w) BadSignature) words a e in (number-within 0 256 BadSignature read.0 a.0 read.1).1
+root-is : (b : Bool) (words : List (List ℕ)) (a : ℕ × List (List ℕ))
+    → cond b (next (λ w. ok_or (number_within 0 256 w) BadSignature)) (give 0) words ≡ Ok a → MatchBool b (a.0 < 256) (a.0 ≡ 0)
+root-is true words a e = let read =
+    next-is (λ w. ok_or (number_within 0 256 w) BadSignature) words a e in (number-within 0 256 BadSignature read.0 a.0 read.1).1
 root-is false words a e = cc
 
-op-is : (b : Bool) (words : List (List ℕ)) (a : Option Op × List (List ℕ)) → cond b (next (λ w. and_then (ok_or (operation_of w) BadSignature) (λ op. Ok (Some op)))) (give None) words ≡ Ok a
+op-is : (b : Bool) (words : List (List ℕ)) (a : Option Op × List (List ℕ))
+    → cond b (next (λ w. and_then (ok_or (operation_of w) BadSignature) (λ op. Ok (Some op)))) (give None) words ≡ Ok a
     → MatchBool b ((op : Op) × (a.0 ≡ Some op)) (a.0 ≡ None)
 op-is true words a e =
     let read = next-is (λ w. and_then (ok_or (operation_of w) BadSignature) (λ op. Ok (Some op))) words a e in
@@ -187,7 +210,8 @@ op-is true words a e =
     (found.0, cc)
 op-is false words a e = cc
 
-datatype-is : (b : Bool) (words : List (List ℕ)) (a : Datatype × List (List ℕ)) → cond b (give Byte) (next (λ w. ok_or (datatype_of w) BadSignature)) words ≡ Ok a → IsTrue b → a.0 ≡ Byte
+datatype-is : (b : Bool) (words : List (List ℕ)) (a : Datatype × List (List ℕ))
+    → cond b (give Byte) (next (λ w. ok_or (datatype_of w) BadSignature)) words ≡ Ok a → IsTrue b → a.0 ≡ Byte
 datatype-is true words a e is = cc
 datatype-is false words a e is = absurd cc
 
@@ -216,7 +240,8 @@ counts-are before (suc k) words a e =
       fit = ((number-within 0 (2 ^ 32) BadSignature read.0 c read.1).1, rest.fit);
     }
 
-each-is : (b : Bool) (n : ℕ) (words : List (List ℕ)) (a : Option (List ℕ) × List (List ℕ)) → cond b (some_counts n) (give None) words ≡ Ok a → MatchBool b (AreCounts n a.0) (a.0 ≡ None)
+each-is : (b : Bool) (n : ℕ) (words : List (List ℕ)) (a : Option (List ℕ) × List (List ℕ))
+    → cond b (some_counts n) (give None) words ≡ Ok a → MatchBool b (AreCounts n a.0) (a.0 ≡ None)
 each-is true n words a e =
     let first = bind-is (counts n) (λ all. give (Some all)) words a e in
     let second = bind-is (counts_from [] n) (λ read. give (read ++ replicate (max_ranks - n) 0)) words first.0 first.1 in
@@ -237,7 +262,8 @@ IsWritten mode n sig = (sig.mode ≡ mode) × HasWords n sig
 given-is : {A : Type 0} (x : A) (words : List (List ℕ)) (a : A × List (List ℕ)) → give x words ≡ Ok a → x ≡ a.0
 given-is x words a e = cc
 
-fields-are : (mode : Mode) (n : ℕ) (kind : Kind) (words : List (List ℕ)) (a : Signature × List (List ℕ)) → fields mode n kind words ≡ Ok a → IsWritten mode n a.0
+fields-are : (mode : Mode) (n : ℕ) (kind : Kind) (words : List (List ℕ)) (a : Signature × List (List ℕ))
+    → fields mode n kind words ≡ Ok a → IsWritten mode n a.0
 unfolding fields
 fields-are mode n kind words a e =
     let roots = cond (has_root kind) (next (λ w. ok_or (number_within 0 256 w) BadSignature)) (give 0) in
@@ -245,13 +271,15 @@ fields-are mode n kind words a e =
     let types = cond (is_barrier kind) (give Byte) (next (λ w. ok_or (datatype_of w) BadSignature)) in
     let count = cond (is_barrier kind || has_counts kind) (give 0) (next count_in) in
     let each = cond (has_counts kind) (some_counts n) (give None) in
-    let sig : ℕ → Option Op → Datatype → ℕ → Option (List ℕ) → Signature = λ root op ty count each. record { kind = kind; mode = mode; root = root; op = op; ty = ty; count = count; each = each } in
+    let sig : ℕ → Option Op → Datatype → ℕ → Option (List ℕ)
+    → Signature = λ root op ty count each. record { kind = kind; mode = mode; root = root; op = op; ty = ty; count = count; each = each } in
     let first = bind-is roots (λ root. ops >>= λ op. types >>= λ ty. count >>= λ m. each >>= λ cs. give (sig root op ty m cs)) words a e in
     let second = bind-is ops (λ op. types >>= λ ty. count >>= λ m. each >>= λ cs. give (sig first.0.0 op ty m cs)) first.0.1 a first.2 in
     let third = bind-is types (λ ty. count >>= λ m. each >>= λ cs. give (sig first.0.0 second.0.0 ty m cs)) second.0.1 a second.2 in
     let fourth = bind-is count (λ m. each >>= λ cs. give (sig first.0.0 second.0.0 third.0.0 m cs)) third.0.1 a third.2 in
     let fifth = bind-is each (λ cs. give (sig first.0.0 second.0.0 third.0.0 fourth.0.0 cs)) fourth.0.1 a fourth.2 in
-    let same : sig first.0.0 second.0.0 third.0.0 fourth.0.0 fifth.0.0 ≡ a.0 = given-is (sig first.0.0 second.0.0 third.0.0 fourth.0.0 fifth.0.0) fifth.0.1 a fifth.2 in
+    let same : sig first.0.0 second.0.0 third.0.0 fourth.0.0 fifth.0.0 ≡ a.0 =
+    given-is (sig first.0.0 second.0.0 third.0.0 fourth.0.0 fifth.0.0) fifth.0.1 a fifth.2 in
     subst (IsWritten mode n) same (
       refl,
       record {
@@ -266,7 +294,8 @@ fields-are mode n kind words a e =
 signature-is : (mode : Mode) (n : ℕ) (words : List (List ℕ)) (a : Signature × List (List ℕ)) → signature mode n words ≡ Ok a → IsWritten mode n a.0
 unfolding signature
 signature-is mode n words a e =
-    let first = bind-is (next (λ w. ok_or (kind_of w) BadSignature)) (λ kind. fields mode n kind >>= λ sig. must (is_none (broken sig n)) BadSignature >>= λ checked. give sig) words a e in
+    let first = bind-is (next (λ w. ok_or (kind_of w) BadSignature))
+    (λ kind. fields mode n kind >>= λ sig. must (is_none (broken sig n)) BadSignature >>= λ checked. give sig) words a e in
     let second = bind-is (fields mode n first.0.0) (λ sig. must (is_none (broken sig n)) BadSignature >>= λ checked. give sig) first.0.1 a first.2 in
     let third = bind-is (must (is_none (broken second.0.0 n)) BadSignature) (λ checked. give second.0.0) second.0.1 a second.2 in
     let same : second.0.0 ≡ a.0 = cc in
@@ -277,7 +306,8 @@ signature-is mode n words a e =
 abbrev pub CanSay : History → ℕ → Command → Type 0
 CanSay h rank c = (words : List (List ℕ)) × Writes h rank c words
 
-may-post : (h : History) (rank : ℕ) (mode : Mode) (comm : ℕ) (sig : Signature) → IsSmall h → IsPosting h.groups rank comm sig → IsWritten mode (members h comm) sig → total h.commands < 4096 → MayPost h rank mode comm sig
+may-post : (h : History) (rank : ℕ) (mode : Mode) (comm : ℕ) (sig : Signature) → IsSmall h → IsPosting h.groups rank comm sig
+    → IsWritten mode (members h comm) sig → total h.commands < 4096 → MayPost h rank mode comm sig
 may-post h rank mode comm sig small is written room = record {
   small = (let within = slice_get_within h.groups comm is.group is.known in omega (arith, within, small.groups));
   group = is.group;
@@ -294,10 +324,14 @@ module _ (h : History) (rank : ℕ) (small : IsSmall h) where
   post-sayable : (words : List (List ℕ)) (a : Command × List (List ℕ)) → post h rank words ≡ Ok a → CanSay h rank a.0
   unfolding post
   post-sayable words a e =
-      let first = bind-is (communicator h.groups rank) (λ comm. signature Once (length (group_of h.groups comm)) >>= λ sig. values (due h.groups rank comm sig / width sig.ty) sig.ty >>= λ given. room h >>= λ fits. give (Post comm sig given)) words a e in
+      let first = bind-is (communicator h.groups rank)
+      (λ comm. signature Once (length (group_of h.groups comm)) >>= λ sig. values (due h.groups rank comm sig / width sig.ty)
+      sig.ty >>= λ given. room h >>= λ fits. give (Post comm sig given)) words a e in
       let comm = first.0.0 in
       let size = length (group_of h.groups comm) in
-      let second = bind-is (signature Once size) (λ sig. values (due h.groups rank comm sig / width sig.ty) sig.ty >>= λ given. room h >>= λ fits. give (Post comm sig given)) first.0.1 a first.2 in
+      let second =
+      bind-is (signature Once size)
+      (λ sig. values (due h.groups rank comm sig / width sig.ty) sig.ty >>= λ given. room h >>= λ fits. give (Post comm sig given)) first.0.1 a first.2 in
       let sig = second.0.0 in
       let count = due h.groups rank comm sig / width sig.ty in
       let third = bind-is (values count sig.ty) (λ given. room h >>= λ fits. give (Post comm sig given)) second.0.1 a second.2 in
@@ -311,7 +345,8 @@ module _ (h : History) (rank : ℕ) (small : IsSmall h) where
   init-sayable : (words : List (List ℕ)) (a : Command × List (List ℕ)) → init h rank words ≡ Ok a → CanSay h rank a.0
   unfolding init
   init-sayable words a e =
-      let first = bind-is (communicator h.groups rank) (λ comm. signature Persistent (length (group_of h.groups comm)) >>= λ sig. end >>= λ ended. room h >>= λ fits. give (Init comm sig)) words a e in
+      let first = bind-is (communicator h.groups rank)
+      (λ comm. signature Persistent (length (group_of h.groups comm)) >>= λ sig. end >>= λ ended. room h >>= λ fits. give (Init comm sig)) words a e in
       let comm = first.0.0 in
       let size = length (group_of h.groups comm) in
       let second = bind-is (signature Persistent size) (λ sig. end >>= λ ended. room h >>= λ fits. give (Init comm sig)) first.0.1 a first.2 in
@@ -332,7 +367,8 @@ module _ (h : History) (rank : ℕ) (small : IsSmall h) where
   start-sayable : (words : List (List ℕ)) (a : Command × List (List ℕ)) → start h rank words ≡ Ok a → CanSay h rank a.0
   unfolding start
   start-sayable words a e =
-      let first = bind-is (startable h rank) (λ it. values (due h.groups rank it.1.comm it.1.sig / width it.1.sig.ty) it.1.sig.ty >>= λ given. give (Start it.0 given)) words a e in
+      let first = bind-is (startable h rank)
+      (λ it. values (due h.groups rank it.1.comm it.1.sig / width it.1.sig.ty) it.1.sig.ty >>= λ given. give (Start it.0 given)) words a e in
       let it = first.0.0 in
       let count = due h.groups rank it.1.comm it.1.sig / width it.1.sig.ty in
       let second = bind-is (values count it.1.sig.ty) (λ given. give (Start it.0 given)) first.0.1 a first.2 in
@@ -366,7 +402,8 @@ module _ (h : History) (rank : ℕ) (small : IsSmall h) where
 
   requests-are : (words : List (List ℕ)) (a : List ℕ × List (List ℕ)) → some h rank words ≡ Ok a → IsSome a.0 × MayName h rank a.0
   requests-are words a e =
-      let are = numbers-are (IsMade h rank) (request_in (length (made h rank))) NamedTwice (λ w q read. is-made q (request-below (length (made h rank)) w q read)) words a e in
+      let are = numbers-are (IsMade h rank) (request_in (length (made h rank))) NamedTwice
+      (λ w q read. is-made q (request-below (length (made h rank)) w q read)) words a e in
       (are.0, (are.1, are.2))
 
   waitany-sayable : (words : List (List ℕ)) (a : Command × List (List ℕ)) → waitany h rank words ≡ Ok a → CanSay h rank a.0
@@ -401,7 +438,8 @@ module _ (h : History) (rank : ℕ) (small : IsSmall h) where
   abbrev IsSayable : (History → ℕ → Reading Command) → Type 0
   IsSayable read = (words : List (List ℕ)) (a : Command × List (List ℕ)) → read h rank words ≡ Ok a → CanSay h rank a.0
 
-  this-or : (b : Bool) (this read : History → ℕ → Reading Command) (others : Option (History → ℕ → Reading Command)) → IsSayable this → (others ≡ Some read → IsSayable read) → cond b (Some this) others ≡ Some read → IsSayable read
+  this-or : (b : Bool) (this read : History → ℕ → Reading Command) (others : Option (History → ℕ → Reading Command))
+      → IsSayable this → (others ≡ Some read → IsSayable read) → cond b (Some this) others ≡ Some read → IsSayable read
   this-or true this read others here there e = let same : this ≡ read = cc in subst IsSayable same here
   this-or false this read others here there e = there e
 

@@ -15,7 +15,19 @@ use Rattle.coll_parser.specs.Code.{begun}
 use Rattle.coll_parser.proofs.Lists.{AllByRecursion-push, AllByRecursion-weaker}
 
 pub IsHistory-beginning : IsHistory 1 beginning
-IsHistory-beginning = record { few_ranks = omega arith; few_groups = omega arith; groups = tt; begun = λ e. refl; opened = tt; early = λ e. refl; allowed = tt; few_commands = omega arith; few = omega arith }
+IsHistory-beginning =
+    record {
+      few_ranks = omega arith;
+      few_groups = omega arith;
+      groups = tt;
+      begun = λ e. refl;
+      opened = tt;
+      early =
+          λ e. refl;
+      allowed = tt;
+      few_commands = omega arith;
+      few = omega arith;
+    }
 
 pub IsHistory-later : (number more : ℕ) (h : History) → number ≤ more → IsHistory number h → IsHistory more h
 IsHistory-later number more h le is = record {
@@ -52,7 +64,8 @@ IsHistory-begun number n h is none few =
       few = is.few;
     }
 
-pub IsHistory-group : (number n : ℕ) (group : List ℕ) (h : History) → IsHistory number h → h.ranks ≡ Some n → h.opened ≡ None → IsGroup n group → length h.groups < 16 → IsHistory (number + 1) (record h { groups = h.groups ++ group ∷ [] })
+pub IsHistory-group : (number n : ℕ) (group : List ℕ) (h : History) → IsHistory number h → h.ranks ≡ Some n → h.opened ≡ None
+    → IsGroup n group → length h.groups < 16 → IsHistory (number + 1) (record h { groups = h.groups ++ group ∷ [] })
 IsHistory-group number n group h is ranks closed fits room =
     let issued : h.commands ≡ [] = is.early closed in
     record {
@@ -67,7 +80,8 @@ IsHistory-group number n group h is ranks closed fits room =
       few = is.few;
     }
 
-pub IsHistory-section : (number n rank : ℕ) (h : History) → IsHistory number h → h.ranks ≡ Some n → rank < n → IsHistory (number + 1) (record h { opened = Some rank })
+pub IsHistory-section : (number n rank : ℕ) (h : History) → IsHistory number h → h.ranks ≡ Some n → rank < n
+    → IsHistory (number + 1) (record h { opened = Some rank })
 IsHistory-section number n rank h is ranks lt = record {
   few_ranks = is.few_ranks;
   few_groups = is.few_groups;
@@ -82,11 +96,17 @@ IsHistory-section number n rank h is ranks lt = record {
 
 -- ---- commands
 
-AreAllowed-push : (n : ℕ) (groups : List (List ℕ)) (before issued : List IssuedCommand) (t : IssuedCommand) → AreAllowed n groups before issued → (t.rank < n) × MayIssue groups t.rank (issued_by t.rank (before ++ issued)) t.command
+AreAllowed-push : (n : ℕ) (groups : List (List ℕ)) (before issued : List IssuedCommand) (t : IssuedCommand)
+    → AreAllowed n groups before issued → (t.rank < n) × MayIssue groups t.rank (issued_by t.rank (before ++ issued)) t.command
     → AreAllowed n groups before (issued ++ t ∷ [])
-AreAllowed-push n groups before [] t allowed may = (subst (λ (ts : List IssuedCommand). (t.rank < n) × MayIssue groups t.rank (issued_by t.rank ts) t.command) (append-nil before) may, tt)
-AreAllowed-push n groups before (u ∷ issued) t allowed may =
-    (allowed.0, AreAllowed-push n groups (before ++ u ∷ []) issued t allowed.1 (subst (λ (ts : List IssuedCommand). (t.rank < n) × MayIssue groups t.rank (issued_by t.rank ts) t.command) (sym (append_assoc before (u ∷ []) issued)) may))
+AreAllowed-push n groups before [] t allowed may =
+    (subst (λ (ts : List IssuedCommand). (t.rank < n) × MayIssue groups t.rank (issued_by t.rank ts) t.command) (append-nil before) may, tt)
+AreAllowed-push n groups before (u ∷ issued) t allowed may = (
+  allowed.0,
+  AreAllowed-push n groups (before ++ u ∷ []) issued t allowed.1
+      (subst (λ (ts : List IssuedCommand). (t.rank < n) × MayIssue groups t.rank (issued_by t.rank ts) t.command)
+      (sym (append_assoc before (u ∷ []) issued)) may),
+)
 
 -- a command makes one request or none
 length-made : (c : Command) (o : Option Posting) → posting c ≡ o → length (postings (c ∷ [])) ≡ length (filter_map (λ (p : Option Posting). p) (o ∷ []))
@@ -95,14 +115,19 @@ length-made c (Some p) e = rw e refl
 
 pub total-more : (issued : List IssuedCommand) (t : IssuedCommand) → total (issued ++ t ∷ []) ≡ total issued + length (postings (t.command ∷ []))
 total-more issued t =
-    ap length (ap postings (map-append (λ (u : IssuedCommand). u.command) issued (t ∷ [])) ∙ filter_map-append posting (map (λ (u : IssuedCommand). u.command) issued) (t.command ∷ []))
+    ap length (ap postings (map-append (λ (u : IssuedCommand). u.command) issued (t ∷ []))
+    ∙ filter_map-append posting (map (λ (u : IssuedCommand). u.command) issued) (t.command ∷ []))
     ∙ length-append (postings (map (λ (u : IssuedCommand). u.command) issued)) (postings (t.command ∷ []))
 
-few-more : (issued : List IssuedCommand) (t : IssuedCommand) (o : Option Posting) → posting t.command ≡ o → total issued ≤ 4096 → IfSome o (λ p. total issued < 4096) → total (issued ++ t ∷ []) ≤ 4096
-few-more issued t None e few room = let made : length (postings (t.command ∷ [])) ≡ 0 = length-made t.command None e in omega (arith, total-more issued t, made, few)
-few-more issued t (Some p) e few room = let made : length (postings (t.command ∷ [])) ≡ 1 = length-made t.command (Some p) e in omega (arith, total-more issued t, made, room)
+few-more : (issued : List IssuedCommand) (t : IssuedCommand) (o : Option Posting) → posting t.command ≡ o → total issued ≤ 4096
+    → IfSome o (λ p. total issued < 4096) → total (issued ++ t ∷ []) ≤ 4096
+few-more issued t None e few room = let made : length (postings (t.command ∷ [])) ≡ 0 =
+    length-made t.command None e in omega (arith, total-more issued t, made, few)
+few-more issued t (Some p) e few room = let made : length (postings (t.command ∷ [])) ≡ 1 =
+    length-made t.command (Some p) e in omega (arith, total-more issued t, made, room)
 
-pub IsHistory-issued : (number rank : ℕ) (c : Command) (h : History) → IsHistory number h → h.opened ≡ Some rank → rank < unwrap_or h.ranks 0 → MayIssue h.groups rank (issued_by rank h.commands) c → IfSome (posting c) (λ p. total h.commands < 4096)
+pub IsHistory-issued : (number rank : ℕ) (c : Command) (h : History) → IsHistory number h → h.opened ≡ Some rank
+    → rank < unwrap_or h.ranks 0 → MayIssue h.groups rank (issued_by rank h.commands) c → IfSome (posting c) (λ p. total h.commands < 4096)
     → IsHistory (number + 1) (issue number rank c h)
 IsHistory-issued number rank c h is opened lt may room =
     let t : IssuedCommand = record { line = number; rank = rank; command = c } in

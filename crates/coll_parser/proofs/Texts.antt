@@ -1,5 +1,6 @@
 -- A text that is written so is read so.
-use Rattle.std.proofs.Common.{◌≡◌, ℕ, suc, ◌+◌, ◌-◌, ◌^◌, ◌<◌, ◌≤◌, Bool, true, false, cond, List, [], ◌∷◌, ◌++◌, length, take, replicate, map, Option, Some, None, Result, Ok, refl, sym, ap, ◌∙◌, append_assoc, arith, inl, inr}
+use Rattle.std.proofs.Common.{◌≡◌, ℕ, suc, ◌+◌, ◌-◌, ◌^◌, ◌<◌, ◌≤◌, Bool, true, false, cond, List, [], ◌∷◌, ◌++◌, length, take, replicate, map}
+use Rattle.std.proofs.Common.{Option, Some, None, Result, Ok, refl, sym, ap, ◌∙◌, append_assoc, arith, inl, inr}
 use Rattle.std.specs.Prelude.{ℤ, pos, negsuc, not, ◌&&◌, ◌||◌, MatchBool, codes, decimal}
 use Rattle.std.specs.List.{AllByRecursion, list_all}
 use Rattle.std.specs.Fmt.{signed_decimal}
@@ -11,9 +12,11 @@ use Rattle.coll_kinds.specs.declared.datatype.Datatype.TheVariants.{I8, I16, I32
 use Rattle.coll_kinds.specs.declared.operation.Op.{Op}
 use Rattle.coll_kinds.specs.declared.operation.Op.TheVariants.{Max, Min, Sum, Prod, Land, Lor, Lxor, Band, Bor, Bxor, LastNz, MaxLoc, MinLoc}
 use Rattle.coll_kinds.specs.declared.kind.Kind.{Kind}
-use Rattle.coll_kinds.specs.declared.kind.Kind.TheVariants.{Barrier, Bcast, Gather, Scatter, Allgather, Allgatherv, Alltoall, Reduce, Allreduce, Rsblock, Scan, Exscan}
+use Rattle.coll_kinds.specs.declared.kind.Kind.TheVariants.{Barrier, Bcast, Gather, Scatter, Allgather, Allgatherv, Alltoall, Reduce, Allreduce}
+use Rattle.coll_kinds.specs.declared.kind.Kind.TheVariants.{Rsblock, Scan, Exscan}
 use Rattle.coll_kinds.specs.declared.signature.Signature.{Signature}
-use Rattle.coll_kinds.specs.Common.{has_root, is_barrier, has_counts, max_ranks, Element, whole, pair, is_pair, in_range, IsElement, kind_word, operation_word, datatype_word}
+use Rattle.coll_kinds.specs.Common.{has_root, is_barrier, has_counts, max_ranks, Element, whole, pair, is_pair, in_range, IsElement, kind_word}
+use Rattle.coll_kinds.specs.Common.{operation_word, datatype_word}
 use Rattle.coll_kinds.specs.Texts.{text_of as element_text}
 use Rattle.coll_parser.specs.declared.cause.Cause.{Cause}
 use Rattle.coll_parser.specs.declared.cause.Cause.TheVariants.{BadRank}
@@ -24,7 +27,9 @@ use Rattle.coll_parser.specs.Reading.{and_then, numbers_from, numbers}
 use Rattle.coll_parser.specs.Histories.{History, beginning}
 use Rattle.coll_parser.specs.Lines.{rank_in, ranks, comm, section, line}
 use Rattle.coll_parser.specs.Judging.{judged}
-use Rattle.coll_parser.specs.Writing.{is_plain, IsWord, IsSkipped, skipped_line, operation_words, count_words, signature_words, value_words, AreCounts, HasWords, members, IsMade, IsSome, NoneTwice, Writes, Says, ranks_line, comm_line, rank_line, command_line, Tells, spaced, text_of}
+use Rattle.coll_parser.specs.Writing.{is_plain, IsWord, IsSkipped, skipped_line, operation_words, count_words, signature_words, value_words}
+use Rattle.coll_parser.specs.Writing.{AreCounts, HasWords, members, IsMade, IsSome, NoneTwice, Writes, Says, ranks_line, comm_line, rank_line}
+use Rattle.coll_parser.specs.Writing.{command_line, Tells, spaced, text_of}
 use Rattle.coll_parser.proofs.Again.{numerals, small-positive, small-negative, within-again}
 use Rattle.coll_parser.proofs.SaidAgain.{command-again}
 use Rattle.coll_parser.proofs.Cuts.{plain-digits, AllByRecursion-append, words_of-spaced, lines_of-text}
@@ -129,7 +134,8 @@ counts-words (c ∷ cs) fit = (number-word c (omega (arith, fit.0)), counts-word
 each-words : (n : ℕ) (cs : List ℕ) → length cs ≡ n → AllByRecursion (λ c. c < 2 ^ 32) cs → AreWords (map decimal (take n (cs ++ replicate (max_ranks - n) 0)))
 each-words n cs count fit = rw (take_at cs (replicate (max_ranks - n) 0) n count) (counts-words cs fit)
 
-tail-words : (n : ℕ) (b c : Bool) (ty : Datatype) (count : ℕ) (each : Option (List ℕ)) → MatchBool (b || c) (count ≡ 0) (count < 2 ^ 32) → MatchBool c (AreCounts n each) (each ≡ None)
+tail-words : (n : ℕ) (b c : Bool) (ty : Datatype) (count : ℕ) (each : Option (List ℕ))
+    → MatchBool (b || c) (count ≡ 0) (count < 2 ^ 32) → MatchBool c (AreCounts n each) (each ≡ None)
     → AreWords (cond b [] (datatype_word ty ∷ count_words n count each))
 tail-words n true c ty count each fits are = tt
 tail-words n false true ty count each fits are = rw are.all (datatype-word ty, each-words n are.counts are.count are.fit)
@@ -154,9 +160,18 @@ made-small h rank (q ∷ qs) are = (are.0.0, made-small h rank qs are.1)
 
 command-words : (h : History) (rank : ℕ) (c : Command) (words : List (List ℕ)) → Writes h rank c words → AreWords words
 command-words h rank (Post comm sig given) words w =
-    rw w.3 (plain_word (codes "post") (omega arith) refl, (number-word comm w.0.small, AllByRecursion-append IsWord (signature_words (members h comm) sig) (value_words w.1) (signature-words (members h comm) sig w.0.words) (values-words sig.ty w.1 w.2.1)))
-command-words h rank (Init comm sig) words w = rw w.1 (plain_word (codes "init") (omega arith) refl, (number-word comm w.0.small, signature-words (members h comm) sig w.0.words))
-command-words h rank (Start q given) words w = rw w.4 (plain_word (codes "start") (omega arith) refl, (number-word q w.1.small, values-words w.0.sig.ty w.2 w.3.1))
+    rw w.3 (
+      plain_word (codes "post") (omega arith) refl,
+      (
+        number-word comm w.0.small,
+        AllByRecursion-append IsWord (signature_words (members h comm) sig) (value_words w.1)
+            (signature-words (members h comm) sig w.0.words) (values-words sig.ty w.1 w.2.1),
+      ),
+    )
+command-words h rank (Init comm sig) words w =
+    rw w.1 (plain_word (codes "init") (omega arith) refl, (number-word comm w.0.small, signature-words (members h comm) sig w.0.words))
+command-words h rank (Start q given) words w =
+    rw w.4 (plain_word (codes "start") (omega arith) refl, (number-word q w.1.small, values-words w.0.sig.ty w.2 w.3.1))
 command-words h rank (Wait q) words w = rw w.1 (plain_word (codes "wait") (omega arith) refl, (number-word q w.0.0, tt))
 command-words h rank (Test q) words w = rw w.1 (plain_word (codes "test") (omega arith) refl, (number-word q w.0.0, tt))
 command-words h rank (Free q) words w = rw w.2 (plain_word (codes "free") (omega arith) refl, (number-word q w.1.small, tt))
@@ -170,9 +185,11 @@ command-words h rank (WaitAll qs) words w =
 
 -- ---- lines
 
-distinct-again : (read : List ℕ → Result ℕ Cause) (twice : Cause) (before qs : List ℕ) → AllByRecursion (λ q. read (decimal q) ≡ Ok q) qs → NoneTwice before qs → numbers_from read twice before (map decimal qs) ≡ Ok (before ++ qs)
+distinct-again : (read : List ℕ → Result ℕ Cause) (twice : Cause) (before qs : List ℕ)
+    → AllByRecursion (λ q. read (decimal q) ≡ Ok q) qs → NoneTwice before qs → numbers_from read twice before (map decimal qs) ≡ Ok (before ++ qs)
 distinct-again read twice before [] are none = ap Ok (sym (append-nil before))
-distinct-again read twice before (q ∷ qs) are none = rw (are.0, none.0) (distinct-again read twice (before ++ q ∷ []) qs are.1 none.1 ∙ ap Ok (append_assoc before (q ∷ []) qs))
+distinct-again read twice before (q ∷ qs) are none =
+    rw (are.0, none.0) (distinct-again read twice (before ++ q ∷ []) qs are.1 none.1 ∙ ap Ok (append_assoc before (q ∷ []) qs))
 
 ranks-read : (n : ℕ) (group : List ℕ) → n ≤ 64 → AllByRecursion (λ r. r < n) group → AllByRecursion (λ r. rank_in n (decimal r) ≡ Ok r) group
 ranks-read n [] few are = tt
@@ -182,9 +199,12 @@ ranks-small : (n : ℕ) (group : List ℕ) → n ≤ 64 → AllByRecursion (λ r
 ranks-small n [] few are = tt
 ranks-small n (r ∷ group) few are = (omega (arith, are.0), ranks-small n group few are.1)
 
-group-again : (n : ℕ) (group : List ℕ) → n ≤ 64 → IsSome group → AllByRecursion (λ r. r < n) group → NoneTwice [] group → numbers (rank_in n) BadRank (map decimal group) ≡ Ok (group, [])
+group-again : (n : ℕ) (group : List ℕ) → n ≤ 64 → IsSome group → AllByRecursion (λ r. r < n) group → NoneTwice [] group
+    → numbers (rank_in n) BadRank (map decimal group) ≡ Ok (group, [])
 group-again n [] few some are none = absurd some
-group-again n (r ∷ group) few some are none = ap (λ (x : Result (List ℕ) Cause). and_then x (λ ns. Ok (ns, []))) (distinct-again (rank_in n) BadRank [] (r ∷ group) (ranks-read n (r ∷ group) few are) none)
+group-again n (r ∷ group) few some are none =
+    ap (λ (x : Result (List ℕ) Cause). and_then x (λ ns. Ok (ns, [])))
+    (distinct-again (rank_in n) BadRank [] (r ∷ group) (ranks-read n (r ∷ group) few are) none)
 
 skips : (number : ℕ) (h : History) (words : List (List ℕ)) → IsSkipped words → line number h words ≡ Ok h
 unfolding line
@@ -196,15 +216,21 @@ unfolding line ranks comm section
 says-reads number h words next (skipped_line all are skipped) = (skips number h all skipped, are)
 says-reads number h words next (ranks_line n none low high) =
     (rw (none, within-again 1 65 n low (omega arith) (omega arith)) refl, (plain_word (codes "ranks") (omega arith) refl, (number-word n (omega arith), tt)))
-says-reads number h words next (comm_line n group ranks few closed room some are none) =
-    (rw (ranks, closed, lt-ltb (length h.groups) 16 room, group-again n group few some are none) refl, (plain_word (codes "comm") (omega arith) refl, numbers-words group (ranks-small n group few are)))
-says-reads number h words next (rank_line n rank ranks few lt) =
-    (rw (ranks, within-again 0 n rank (omega arith) lt (omega arith)) refl, (plain_word (codes "rank") (omega arith) refl, (number-word rank (omega arith), tt)))
-says-reads number h words next (command_line n rank c w ranks opened writes) = (command-again number rank n h ranks opened c w writes, command-words h rank c w writes)
+says-reads number h words next (comm_line n group ranks few closed room some are none) = (
+  rw (ranks, closed, lt-ltb (length h.groups) 16 room, group-again n group few some are none) refl,
+  (plain_word (codes "comm") (omega arith) refl, numbers-words group (ranks-small n group few are)),
+)
+says-reads number h words next (rank_line n rank ranks few lt) = (
+  rw (ranks, within-again 0 n rank (omega arith) lt (omega arith)) refl,
+  (plain_word (codes "rank") (omega arith) refl, (number-word rank (omega arith), tt)),
+)
+says-reads number h words next (command_line n rank c w ranks opened writes) =
+    (command-again number rank n h ranks opened c w writes, command-words h rank c w writes)
 
 -- ---- texts
 
-pub tells-reads : (number : ℕ) (h : History) (lines : List (List (List ℕ))) (last : History) → Tells number h lines last → (judged number h (map spaced lines) ≡ Ok last) × AllByRecursion AreWords lines
+pub tells-reads : (number : ℕ) (h : History) (lines : List (List (List ℕ))) (last : History) → Tells number h lines last
+    → (judged number h (map spaced lines) ≡ Ok last) × AllByRecursion AreWords lines
 tells-reads number h [] last tells = (ap Ok (sym tells), tt)
 tells-reads number h (words ∷ lines) last tells =
     let says = says-reads number h words tells.0 tells.1 in
@@ -213,7 +239,8 @@ tells-reads number h (words ∷ lines) last tells =
     (rw read rest.0, (says.1, rest.1))
 
 -- what is written is read
-pub text-again : (words : List (List ℕ)) (lines : List (List (List ℕ))) (last : History) → Tells 1 beginning (words ∷ lines) last → judged 1 beginning (lines_of (text_of (words ∷ lines))) ≡ Ok last
+pub text-again : (words : List (List ℕ)) (lines : List (List (List ℕ))) (last : History) → Tells 1 beginning (words ∷ lines) last
+    → judged 1 beginning (lines_of (text_of (words ∷ lines))) ≡ Ok last
 text-again words lines last tells =
     let reads = tells-reads 1 beginning (words ∷ lines) last tells in
     ap (judged 1 beginning) (lines_of-text words lines reads.1) ∙ reads.0

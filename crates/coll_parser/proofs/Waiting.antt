@@ -1,5 +1,6 @@
 -- Entries after a wait for several requests, one after another.
-use Rattle.std.proofs.Common.{◌≡◌, ◌≢◌, ℕ, zero, suc, ◌<◌, Bool, true, false, cond, ◌||◌, eqb, List, [], ◌∷◌, ◌++◌, length, get_or, set, Option, Some, None, refl, sym, ap, ◌∙◌, arith, inl, inr}
+use Rattle.std.proofs.Common.{◌≡◌, ◌≢◌, ℕ, zero, suc, ◌<◌, Bool, true, false, cond, ◌||◌, eqb, List, [], ◌∷◌, ◌++◌, length, get_or, set, Option, Some}
+use Rattle.std.proofs.Common.{None, refl, sym, ap, ◌∙◌, arith, inl, inr}
 use Rattle.std.specs.Prelude.{slice_get}
 use Rattle.std.specs.Option.{option_map}
 use Rattle.std.proofs.Math.Bool.{or-false}
@@ -27,7 +28,8 @@ idle : (b : Bool) (x : SectionEntry) → record (cond b (record x { since = 0 })
 idle true x = refl
 idle false x = refl
 
-here_waited : (named : List ℕ) (q : ℕ) (o : Option SectionEntry) (p d : SectionEntry) → Some d ≡ option_map (waited_by named q) o → p ≡ record d { since = 0 } → Some p ≡ option_map (waited_by (named ++ q ∷ []) q) o
+here_waited : (named : List ℕ) (q : ℕ) (o : Option SectionEntry) (p d : SectionEntry) → Some d ≡ option_map (waited_by named q) o
+    → p ≡ record d { since = 0 } → Some p ≡ option_map (waited_by (named ++ q ∷ []) q) o
 here_waited named q None p d at is = absurd cc
 here_waited named q (Some x) p d at is =
     let same : d ≡ waited_by named q x = same_Some d (waited_by named q x) at in
@@ -42,7 +44,8 @@ same_map (Some p) = refl
 pub AreWaited-none : (old : List SectionEntry) → AreWaited [] old old
 AreWaited-none old = (refl, λ q. same_map (slice_get old q))
 
-pub AreWaited-more : (named : List ℕ) (q : ℕ) (old new : List SectionEntry) (p d : SectionEntry) → q < length old → AreWaited named old new → p ≡ record (get_or new q d) { since = 0 } → AreWaited (named ++ q ∷ []) old (set new q p)
+pub AreWaited-more : (named : List ℕ) (q : ℕ) (old new : List SectionEntry) (p d : SectionEntry) → q < length old
+    → AreWaited named old new → p ≡ record (get_or new q d) { since = 0 } → AreWaited (named ++ q ∷ []) old (set new q p)
 AreWaited-more named q old new p d lt are is = (
   length-set new q p ∙ are.0,
   λ j. elim (cases_eq j q) [
@@ -50,7 +53,8 @@ AreWaited-more named q old new p d lt are is = (
         let within : q < length new = omega (arith, lt, are.0) in
         rw e (slice-set_same new q p within ∙ here_waited named q (slice_get old q) p (get_or new q d) (sym (slice_get-get_or new q d within) ∙ are.1 q) is)
     | inr ne ↦
-        let other : is_among j (named ++ q ∷ []) ≡ is_among j named = is_among-push j q named ∙ ap (λ b. is_among j named || b) (ne_eqb q j (λ e. ne (sym e))) ∙ or-false (is_among j named) in
+        let other : is_among j (named ++ q ∷ []) ≡ is_among j named =
+        is_among-push j q named ∙ ap (λ b. is_among j named || b) (ne_eqb q j (λ e. ne (sym e))) ∙ or-false (is_among j named) in
         slice-set_other new q j p ne ∙ are.1 j ∙ ap (λ b. option_map (λ (z : SectionEntry). cond b (record z { since = 0 }) z) (slice_get old j)) (sym other)
   ],
 )

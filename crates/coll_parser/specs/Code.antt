@@ -45,7 +45,16 @@ givens starts = map (λ s. s.given.now) starts
 -- a request as the definitions have it
 abbrev pub request_view : rust_request.Request → Request
 request_view p =
-    record { line = p.line; comm = p.comm; place = p.place; member = p.member; sig = p.sig; starts = givens p.starts.items; lines = map (λ s. s.line) p.starts.items }
+    record {
+      line = p.line;
+      comm = p.comm;
+      place = p.place;
+      member = p.member;
+      sig = p.sig;
+      starts =
+          givens p.starts.items;
+      lines = map (λ s. s.line) p.starts.items;
+    }
 
 -- the requests of each rank
 abbrev pub requests_view : List (Vec rust_request.Request Global) → List (List Request)

@@ -11,7 +11,8 @@ use Rattle.coll_kinds.specs.declared.kind.Mode.{Mode}
 use Rattle.coll_kinds.specs.declared.kind.Mode.TheVariants.{Once, Persistent}
 use Rattle.coll_kinds.specs.declared.operation.Op.{Op}
 use Rattle.coll_kinds.specs.declared.signature.Signature.{Signature}
-use Rattle.coll_kinds.specs.Common.{whole, width, element_bytes, value_of, given_len, has_root, has_operation, is_barrier, has_counts, broken, max_ranks, kind_of, operation_of, datatype_of, member_of}
+use Rattle.coll_kinds.specs.Common.{whole, width, element_bytes, value_of, given_len, has_root, has_operation, is_barrier, has_counts, broken}
+use Rattle.coll_kinds.specs.Common.{max_ranks, kind_of, operation_of, datatype_of, member_of}
 use Rattle.coll_kinds.specs.Texts.{number_of}
 use Rattle.coll_parser.specs.declared.cause.Cause.{Cause}
 use Rattle.coll_parser.specs.declared.cause.Cause.TheVariants.{MissingRanks, UnknownCommand, OutOfPlace, BadWords}

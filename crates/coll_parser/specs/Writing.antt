@@ -12,7 +12,8 @@ use Rattle.coll_kinds.specs.declared.kind.Mode.{Mode}
 use Rattle.coll_kinds.specs.declared.kind.Mode.TheVariants.{Once, Persistent}
 use Rattle.coll_kinds.specs.declared.operation.Op.{Op}
 use Rattle.coll_kinds.specs.declared.signature.Signature.{Signature}
-use Rattle.coll_kinds.specs.Common.{Element, width, element_bytes, IsElement, has_root, has_operation, is_barrier, has_counts, broken, max_ranks, kind_word, operation_word, datatype_word, member_of, is_among}
+use Rattle.coll_kinds.specs.Common.{Element, width, element_bytes, IsElement, has_root, has_operation, is_barrier, has_counts, broken, max_ranks}
+use Rattle.coll_kinds.specs.Common.{kind_word, operation_word, datatype_word, member_of, is_among}
 use Rattle.coll_kinds.specs.Texts.{text_of as element_text}
 use Rattle.coll_parser.specs.declared.command.Command.{Command}
 use Rattle.coll_parser.specs.declared.command.Command.TheVariants.{Post, Init, Start, Wait, Test, Free}

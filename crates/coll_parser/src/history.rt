@@ -36,7 +36,8 @@ impl Model for History {
 
     ghost view = { λ h. record { ranks = h.ranks; groups = rows_view h.groups.items; opened = h.opened; commands = h.commands.items } };
 
-    ghost invariant = { λ h. IsHistory 1048578 (record { ranks = h.ranks; groups = rows_view h.groups.items; opened = h.opened; commands = h.commands.items }) };
+    ghost invariant = { λ h. IsHistory 1048578
+        (record { ranks = h.ranks; groups = rows_view h.groups.items; opened = h.opened; commands = h.commands.items }) };
 }
 
 impl History {

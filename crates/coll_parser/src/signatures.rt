@@ -71,7 +71,8 @@ fn root(has_root: bool, words: &mut Words) -> Result<u8, Cause>
 }
 
 fn operation(has_operation: bool, words: &mut Words) -> Result<Option<Op>, Cause>
-    ensures { Reads (λ op. op) result words.new (cond has_operation (next (λ w. and_then (ok_or (operation_of w) BadSignature) (λ op. Ok (Some op)))) (give None) words.old) }
+    ensures { Reads (λ op. op) result words.new
+        (cond has_operation (next (λ w. and_then (ok_or (operation_of w) BadSignature) (λ op. Ok (Some op)))) (give None) words.old) }
 {
     if !has_operation {
         return Ok(None);

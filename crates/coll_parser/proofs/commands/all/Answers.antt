@@ -13,5 +13,6 @@ overflow_cast-len c =
 pub returns : goal.returns
 returns c =
     let kept = section-kept c.args.number c.args.rank c.args.reader.now c.index.result.now c.requires.reader c.requires.rank c.index.ensures in
-    let count : c.len.result ≡ length (made (history_of c.args.reader.now) c.args.rank) = omega (arith, c.len.ensures, length-entries c.args.number c.args.rank c.args.reader.now.commands.items c.index.result.now kept.0) in
+    let count : c.len.result ≡ length (made (history_of c.args.reader.now) c.args.rank) =
+    omega (arith, c.len.ensures, length-entries c.args.number c.args.rank c.args.reader.now.commands.items c.index.result.now kept.0) in
     c.first.ensures ∙ ap (range_with_len 0) count

@@ -12,5 +12,6 @@ one-requires c =
 pub returns : goal.returns
 returns c =
     let kept = section-kept c.args.number c.args.rank c.args.reader.now c.index.result.now c.requires.reader c.requires.rank c.index.ensures in
-    let count : length (made (history_of c.args.reader.now) c.args.rank) ≡ c.len.result = omega (arith, c.len.ensures, length-entries c.args.number c.args.rank c.args.reader.now.commands.items c.index.result.now kept.0) in
+    let count : length (made (history_of c.args.reader.now) c.args.rank) ≡ c.len.result =
+    omega (arith, c.len.ensures, length-entries c.args.number c.args.rank c.args.reader.now.commands.items c.index.result.now kept.0) in
     c.one.ensures (history_of c.args.reader.now) c.args.rank count

@@ -19,16 +19,25 @@ requests-requires-clause-few c =
 
 pub requests-requires-clause-earlier : goal.requests-requires-clause-earlier
 requests-requires-clause-earlier c = λ q lt.
-    let are = stamps-at c.args.number c.args.rank c.args.reader.now c.index_mut-stamps.result.now c.requires.stamped c.requires.rank c.index_mut-stamps.ensures.value in
+    let are = stamps-at c.args.number c.args.rank c.args.reader.now c.index_mut-stamps.result.now c.requires.stamped
+    c.requires.rank c.index_mut-stamps.ensures.value in
     let some : 0 < c.args.number = omega (arith, c.requires.reader.history.few_commands) in
-    stamps-resized c.args.number c.len-count.result _ c.index_mut-stamps.result.now.items c.deref_mut.result.now some (c.deref_mut.ensures.value ∙ c.in_ok-resize.ensures.items) are.1 q lt
+    stamps-resized c.args.number c.len-count.result _ c.index_mut-stamps.result.now.items c.deref_mut.result.now some
+    (c.deref_mut.ensures.value ∙ c.in_ok-resize.ensures.items) are.1 q lt
 
 pub returns-clause-read : goal.returns-clause-read
 returns-clause-read c =
     let kept = section-kept c.args.number c.args.rank c.args.reader.now c.index.result.now c.requires.reader c.requires.rank c.index.ensures in
     let count : length c.deref_mut.result.now ≡ length (made (history_of c.args.reader.now) c.args.rank) =
-    omega (arith, ap length c.deref_mut.ensures.value, c.in_ok-resize.ensures.len, c.len-count.ensures, length-entries c.args.number c.args.rank c.args.reader.now.commands.items c.index.result.now kept.0) in
-    subst (λ n. ReadsSo (λ (qs : List ℕ). qs) c.requests.result c.requests.new.words (numbers (request_in n) NamedTwice c.args.words.now)) count c.requests.ensures.read
+    omega (
+      arith,
+      ap length c.deref_mut.ensures.value,
+      c.in_ok-resize.ensures.len,
+      c.len-count.ensures,
+      length-entries c.args.number c.args.rank c.args.reader.now.commands.items c.index.result.now kept.0,
+    ) in
+    subst (λ n. ReadsSo (λ (qs : List ℕ). qs) c.requests.result c.requests.new.words (numbers (request_in n) NamedTwice c.args.words.now))
+    count c.requests.ensures.read
 
 pub returns-clause-stamped : goal.returns-clause-stamped
 returns-clause-stamped c =
@@ -37,7 +46,17 @@ returns-clause-stamped c =
     let same : length c.requests.new.stamps ≡ c.resize.new.self.len = omega (arith, long, c.deref_mut.ensures.len) in
     let items = with_items_is c.resize.new.self c.requests.new.stamps same in
     let few : length c.requests.new.stamps ≤ count c.args.rank c.args.reader.now.commands.items =
-    omega (arith, long, ap length c.deref_mut.ensures.value, c.in_ok-resize.ensures.len, c.len-count.ensures, length-entries c.args.number c.args.rank c.args.reader.now.commands.items c.index.result.now kept.0) in
-    let below : (q : ℕ) → q < length c.requests.new.stamps → slice_index c.requests.new.stamps q < c.args.number + 1 = λ q lt. (let le = c.requests.ensures.stamps q (omega (arith, lt, long)) in omega (arith, le)) in
+    omega (
+      arith,
+      long,
+      ap length c.deref_mut.ensures.value,
+      c.in_ok-resize.ensures.len,
+      c.len-count.ensures,
+      length-entries c.args.number c.args.rank c.args.reader.now.commands.items c.index.result.now kept.0,
+    ) in
+    let below : (q : ℕ) → q < length c.requests.new.stamps
+    → slice_index c.requests.new.stamps q < c.args.number + 1 =
+    λ q lt. (let le = c.requests.ensures.stamps q (omega (arith, lt, long)) in omega (arith, le)) in
     if_ok c.requests.result
-    (IsStamped-set c.args.number c.args.rank c.args.reader.now _ _ c.requires.stamped refl refl refl (subst (AreStamps (c.args.number + 1) (count c.args.rank c.args.reader.now.commands.items)) (sym items) (few, below)))
+    (IsStamped-set c.args.number c.args.rank c.args.reader.now _ _ c.requires.stamped refl refl refl
+    (subst (AreStamps (c.args.number + 1) (count c.args.rank c.args.reader.now.commands.items)) (sym items) (few, below)))

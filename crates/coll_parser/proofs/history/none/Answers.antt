@@ -12,5 +12,7 @@ loop-init c = record { count = rw c.new-ranks.ensures.items refl; none = rw c.ne
 pub loop-preserved : goal.loop-preserved
 loop-preserved c = record {
   count = rw c.in_ok-push.ensures.items (length-append c.loop.ranks.items _ ∙ ap (λ n. n + 1) c.loop.invariant.count);
-  none = rw c.in_ok-push.ensures.items (subst (AllByRecursion (λ (s : List Request). s ≡ [])) (sym (map-append _ c.loop.ranks.items (c.new.result ∷ []))) (AllByRecursion-push _ (requests_view c.loop.ranks.items) _ c.loop.invariant.none (ap (map request_view) c.new.ensures.items)));
+  none = rw c.in_ok-push.ensures.items
+      (subst (AllByRecursion (λ (s : List Request). s ≡ [])) (sym (map-append _ c.loop.ranks.items (c.new.result ∷ [])))
+      (AllByRecursion-push _ (requests_view c.loop.ranks.items) _ c.loop.invariant.none (ap (map request_view) c.new.ensures.items)));
 }

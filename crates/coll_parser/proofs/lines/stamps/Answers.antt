@@ -11,5 +11,7 @@ loop-init c = record { count = rw c.new-stamps.ensures.items refl; none = rw c.n
 pub loop-preserved : goal.loop-preserved
 loop-preserved c = record {
   count = rw c.in_ok-push.ensures.items (length-append c.loop.stamps.items _ ∙ ap (λ n. n + 1) c.loop.invariant.count);
-  none = rw c.in_ok-push.ensures.items (subst (AllByRecursion (λ (s : List ℕ). s ≡ [])) (sym (map-append _ c.loop.stamps.items (c.new.result ∷ []))) (AllByRecursion-push _ (rows_view c.loop.stamps.items) _ c.loop.invariant.none c.new.ensures.items));
+  none = rw c.in_ok-push.ensures.items
+      (subst (AllByRecursion (λ (s : List ℕ). s ≡ [])) (sym (map-append _ c.loop.stamps.items (c.new.result ∷ [])))
+      (AllByRecursion-push _ (rows_view c.loop.stamps.items) _ c.loop.invariant.none c.new.ensures.items));
 }

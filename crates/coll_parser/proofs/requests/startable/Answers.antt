@@ -21,6 +21,7 @@ returns c = λ next h rank is.
     let read = subst (λ n. lines.next (request_in n) c.args.words.now ≡ Ok (c.in_ok-q.q, c.request.new.self)) count c.in_ok-q.ensures.reads in
     let word = next-is (request_in (length c.args.section.now.entries.items)) c.args.words.now (c.in_ok-q.q, c.request.new.self) read in
     let within : c.in_ok-q.q < length c.args.section.now.entries.items = request-below (length c.args.section.now.entries.items) word.0 c.in_ok-q.q word.1 in
-    let at : slice_get c.args.section.now.entries.items c.in_ok-q.q ≡ Some c.index.result.now = slice_get_read c.args.section.now.entries.items (length c.args.section.now.entries.items) c.in_ok-q.q c.index.result.now refl within c.index.ensures in
+    let at : slice_get c.args.section.now.entries.items c.in_ok-q.q ≡ Some c.index.result.now =
+    slice_get_read c.args.section.now.entries.items (length c.args.section.now.entries.items) c.in_ok-q.q c.index.result.now refl within c.index.ensures in
     startable-is_read next rank h c.args.section.now c.args.words.now c.in_ok-q.q c.request.new.self c.index.result.now is read at
     (λ p there. sym c.if-not-is_startable.false ∙ c.is_startable.ensures next (issued_by rank h.commands) p is there)

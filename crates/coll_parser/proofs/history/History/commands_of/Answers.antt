@@ -32,9 +32,11 @@ loop-issued-preserved c =
       | then-issued-rank+in_ok-copied+in_ok-push w ↦
           (let next = issued-next-own h.commands i t c.args.rank lt is w.if-issued-rank.true in
           record {
-            issued = ap (λ v. v.items) w.commands-is ∙ w.in_ok-push.ensures.items ∙ ap (λ (cs : List Command). cs ++ w.in_ok-copied.field-0 ∷ []) c.loop-issued.invariant.issued
+            issued = ap (λ v. v.items) w.commands-is ∙ w.in_ok-push.ensures.items
+                ∙ ap (λ (cs : List Command). cs ++ w.in_ok-copied.field-0 ∷ []) c.loop-issued.invariant.issued
                 ∙ ap (λ (x : Command). issued_by c.args.rank (take i h.commands) ++ x ∷ []) w.in_ok-copied.ensures ∙ sym next;
-            made = w.made-is ∙ ap (λ n. n + w.made.result) c.loop-issued.invariant.made ∙ ap (λ n. length (postings (issued_by c.args.rank (take i h.commands))) + n) w.made.ensures
+            made = w.made-is ∙ ap (λ n. n + w.made.result) c.loop-issued.invariant.made
+                ∙ ap (λ n. length (postings (issued_by c.args.rank (take i h.commands))) + n) w.made.ensures
                 ∙ sym (made-next (issued_by c.args.rank (take i h.commands)) t.command) ∙ ap (λ (cs : List Command). length (postings cs)) (sym next);
           })
       | else-issued-rank w ↦
@@ -49,7 +51,8 @@ pub returns : goal.returns
 returns c =
     let h = c.args.self.now in
     let same : c.deref-issued-items.result.now ≡ h.commands = c.deref-issued-items.ensures.value ∙ ap (λ (x : History). x.commands) c.self.view_is in
-    let whole : take c.loop-issued.issued-index h.commands ≡ h.commands = take-all h.commands c.loop-issued.issued-index (omega (arith, c.loop-issued-test.false, ap length same)) in
+    let whole : take c.loop-issued.issued-index h.commands ≡ h.commands =
+    take-all h.commands c.loop-issued.issued-index (omega (arith, c.loop-issued-test.false, ap length same)) in
     let issued = c.loop-issued.invariant.issued ∙ ap (issued_by c.args.rank) whole in
     let made = c.loop-issued.invariant.made ∙ ap (λ (ts : List IssuedCommand). length (postings (issued_by c.args.rank ts))) whole in
     c.in_ok-push-2.ensures.items ∙ ap (λ (cs : List Command). cs ++ WaitAll c.first.result ∷ []) issued

@@ -16,7 +16,8 @@ use Rattle.coll_parser.proofs.Requested.{requests-own, requests-other}
 use Rattle.coll_parser.proofs.Soundly.{IsHistory-sound, next-allowed, take-next, may-name, all-step, views-range}
 use Rattle.coll_parser.proofs.history.History.requests.Goals as goal
 
-none-made : (ranks : List (List Request)) (vs : List _) → AllByRecursion (λ requests. requests ≡ []) (requests_view vs) → (rank : ℕ) → IfSome (slice_get vs rank) (λ v. map request_view v.items ≡ [])
+none-made : (ranks : List (List Request)) (vs : List _) → AllByRecursion (λ requests. requests ≡ []) (requests_view vs)
+    → (rank : ℕ) → IfSome (slice_get vs rank) (λ v. map request_view v.items ≡ [])
 none-made ranks [] none rank = tt
 none-made ranks (v ∷ vs) none zero = none.0
 none-made ranks (v ∷ vs) none (suc rank) = none-made ranks vs none.1 rank
@@ -45,8 +46,10 @@ note-requires-clause-known c =
     let next = next-allowed (unwrap_or h.ranks 0) h.groups h.commands i t lt is c.loop-issued.invariant.allowed in
     let within : t.rank < length c.loop-issued.ranks.items = omega (arith, next.0.0, c.loop-issued.invariant.count) in
     let at = slice_get_read c.loop-issued.ranks.items (length c.loop-issued.ranks.items) t.rank c.index_mut.result.now refl within c.index_mut.ensures.value in
-    let made : map request_view c.index_mut.result.now.items ≡ requests_of h.groups t.rank (take i h.commands) = rw at at (c.loop-issued.invariant.made t.rank) in
-    let long : length c.index_mut.result.now.items ≡ length (requests_of h.groups t.rank (take i h.commands)) = sym (length-map c.index_mut.result.now.items request_view) ∙ ap length made in
+    let made : map request_view c.index_mut.result.now.items ≡ requests_of h.groups t.rank (take i h.commands) =
+    rw at at (c.loop-issued.invariant.made t.rank) in
+    let long : length c.index_mut.result.now.items ≡ length (requests_of h.groups t.rank (take i h.commands)) =
+    sym (length-map c.index_mut.result.now.items request_view) ∙ ap length made in
     may-name h.groups (take i h.commands) t (length c.index_mut.result.now.items) c.loop-issued.invariant.all long next.0.1
 
 pub note-requires-clause-placed : goal.note-requires-clause-placed
@@ -60,7 +63,8 @@ note-requires-clause-placed c =
     let next = next-allowed (unwrap_or h.ranks 0) h.groups h.commands i t lt is c.loop-issued.invariant.allowed in
     let within : t.rank < length c.loop-issued.ranks.items = omega (arith, next.0.0, c.loop-issued.invariant.count) in
     let at = slice_get_read c.loop-issued.ranks.items (length c.loop-issued.ranks.items) t.rank c.index_mut.result.now refl within c.index_mut.ensures.value in
-    let made : map request_view c.index_mut.result.now.items ≡ requests_of h.groups t.rank (take i h.commands) = rw at at (c.loop-issued.invariant.made t.rank) in
+    let made : map request_view c.index_mut.result.now.items ≡ requests_of h.groups t.rank (take i h.commands) =
+    rw at at (c.loop-issued.invariant.made t.rank) in
     subst ArePlaced (sym made) (placed-of h.groups t.rank (take i h.commands))
 
 pub loop-issued-preserved : goal.loop-issued-preserved
@@ -76,14 +80,16 @@ loop-issued-preserved c =
     let groups : rows_view c.deref.result.now ≡ h.groups = ap rows_view c.deref.ensures.value ∙ ap (λ (x : History). x.groups) c.self.view_is in
     let within : t.rank < length c.loop-issued.ranks.items = omega (arith, next.0.0, c.loop-issued.invariant.count) in
     let at = slice_get_read c.loop-issued.ranks.items (length c.loop-issued.ranks.items) t.rank c.index_mut.result.now refl within c.index_mut.ensures.value in
-    let made : map request_view c.index_mut.result.now.items ≡ requests_of h.groups t.rank (take i h.commands) = rw at at (c.loop-issued.invariant.made t.rank) in
+    let made : map request_view c.index_mut.result.now.items ≡ requests_of h.groups t.rank (take i h.commands) =
+    rw at at (c.loop-issued.invariant.made t.rank) in
     let noted : map request_view c.note.new.requests.items ≡ requests_of h.groups t.rank (take i h.commands ++ t ∷ []) =
     c.in_ok-note.ensures ∙ ap (λ (g : List (List ℕ)). requests_after g t.line t.rank t.command (map request_view c.index_mut.result.now.items)) groups
     ∙ ap (requests_after h.groups t.line t.rank t.command) made ∙ sym (requests-own h.groups (take i h.commands) t) in
     rw more
     (record {
       count = length-set c.loop-issued.ranks.items t.rank c.note.new.requests ∙ c.loop-issued.invariant.count;
-      made = each-set (λ r v. map request_view v.items ≡ requests_of h.groups r (take i h.commands)) (λ r v. map request_view v.items ≡ requests_of h.groups r (take i h.commands ++ t ∷ [])) c.loop-issued.ranks.items t.rank c.note.new.requests
+      made = each-set (λ r v. map request_view v.items ≡ requests_of h.groups r (take i h.commands))
+          (λ r v. map request_view v.items ≡ requests_of h.groups r (take i h.commands ++ t ∷ [])) c.loop-issued.ranks.items t.rank c.note.new.requests
           (λ v there e. noted) (λ r v ne e. e ∙ sym (requests-other h.groups r (take i h.commands) t ne)) c.loop-issued.invariant.made;
       allowed = next.1;
       all = all-step h.groups (take i h.commands) t next.0.1 c.loop-issued.invariant.all;
@@ -93,10 +99,12 @@ pub returns-clause-view : goal.returns-clause-view
 returns-clause-view c =
     let h = c.args.self.now in
     let same : c.deref-issued-items.result.now ≡ h.commands = c.deref-issued-items.ensures.value ∙ ap (λ (x : History). x.commands) c.self.view_is in
-    let whole : take c.loop-issued.issued-index h.commands ≡ h.commands = take-all h.commands c.loop-issued.issued-index (omega (arith, c.loop-issued-test.false, ap length same)) in
+    let whole : take c.loop-issued.issued-index h.commands ≡ h.commands =
+    take-all h.commands c.loop-issued.issued-index (omega (arith, c.loop-issued-test.false, ap length same)) in
     let made : (k : ℕ) → IfSome (slice_get c.loop-issued.ranks.items k) (λ v. map request_view v.items ≡ requests_of h.groups (0 + k) h.commands) = λ k.
     (let zeroth : 0 + k ≡ k = omega arith in rw (zeroth, ← whole) (c.loop-issued.invariant.made k)) in
-    views-range (λ rank. requests_of h.groups rank h.commands) c.loop-issued.ranks.items 0 made ∙ ap (λ n. map (λ rank. requests_of h.groups rank h.commands) (range_with_len 0 n)) c.loop-issued.invariant.count
+    views-range (λ rank. requests_of h.groups rank h.commands) c.loop-issued.ranks.items 0 made
+    ∙ ap (λ n. map (λ rank. requests_of h.groups rank h.commands) (range_with_len 0 n)) c.loop-issued.invariant.count
 
 pub returns-clause-sound : goal.returns-clause-sound
 returns-clause-sound c = IsHistory-sound c.args.self.now (subst (IsHistory 1048578) c.self.view_is c.self.invariant)

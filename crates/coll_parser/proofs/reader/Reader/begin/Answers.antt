@@ -5,7 +5,9 @@ use Rattle.coll_parser.proofs.reader.Reader.begin.Goals as goal
 
 pub returns-clause-reader : goal.returns-clause-reader
 returns-clause-reader c =
-    let groups = ap rows_view (c.in_ok-push.ensures.items ∙ ap (λ (rows : List _). rows ++ c.in_ok-all_ranks.field-0 ∷ []) c.new.ensures.items) ∙ ap (λ (g : List ℕ). g ∷ []) c.in_ok-all_ranks.ensures in
+    let groups =
+    ap rows_view (c.in_ok-push.ensures.items ∙ ap (λ (rows : List _). rows ++ c.in_ok-all_ranks.field-0 ∷ []) c.new.ensures.items)
+    ∙ ap (λ (g : List ℕ). g ∷ []) c.in_ok-all_ranks.ensures in
     IsReader-begun c.args.number c.args.n c.args.self.now _ c.requires.reader c.requires.first c.requires.few
     (λ i. record { ranks = Some c.args.n; groups = groups i; opened = c.args.self.now.opened; commands = c.args.self.now.commands.items }) refl
     c.in_ok-self.ensures.count c.in_ok-self.ensures.kept

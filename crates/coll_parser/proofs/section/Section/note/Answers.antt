@@ -7,7 +7,8 @@ pub returns-in_ok-make-in-Post : goal.returns-in_ok-make-in-Post
 returns-in_ok-make-in-Post c = λ commands is. c.in_ok-make-in-Post.ensures c.args.line commands c.args.command.now is (rw (c.in-Post.is, c.sig.ensures) refl)
 
 pub returns-in_ok-make-in-Init : goal.returns-in_ok-make-in-Init
-returns-in_ok-make-in-Init c = λ commands is. c.in_ok-make-in-Init.ensures c.args.line commands c.args.command.now is (rw (c.in-Init.is, c.sig-in-Init.ensures) refl)
+returns-in_ok-make-in-Init c =
+    λ commands is. c.in_ok-make-in-Init.ensures c.args.line commands c.args.command.now is (rw (c.in-Init.is, c.sig-in-Init.ensures) refl)
 
 pub returns-in-Wait : goal.returns-in-Wait
 returns-in-Wait c = λ commands is. rw c.in-Wait.is (c.wait.ensures c.args.line commands is)
@@ -16,10 +17,16 @@ pub returns-in-Free : goal.returns-in-Free
 returns-in-Free c = λ commands is. rw c.in-Free.is (c.free.ensures c.args.line commands is)
 
 pub returns-in-Test : goal.returns-in-Test
-returns-in-Test c = λ commands is. rw c.in-Test.is (nothing-kept c.args.line commands c.args.self.now (Test c.in-Test.field-0) refl (λ q. record { starts = refl; waits = refl; frees = refl }) is)
+returns-in-Test c =
+    λ commands is. rw c.in-Test.is
+    (nothing-kept c.args.line commands c.args.self.now (Test c.in-Test.field-0) refl (λ q. record { starts = refl; waits = refl; frees = refl }) is)
 
 pub returns-in-WaitAny : goal.returns-in-WaitAny
-returns-in-WaitAny c = λ commands is. rw c.in-WaitAny.is (nothing-kept c.args.line commands c.args.self.now (WaitAny c.in-WaitAny.field-0) refl (λ q. record { starts = refl; waits = refl; frees = refl }) is)
+returns-in-WaitAny c =
+    λ commands is. rw c.in-WaitAny.is
+    (nothing-kept c.args.line commands c.args.self.now (WaitAny c.in-WaitAny.field-0) refl (λ q. record { starts = refl; waits = refl; frees = refl }) is)
 
 pub returns-in-WaitSome : goal.returns-in-WaitSome
-returns-in-WaitSome c = λ commands is. rw c.in-WaitSome.is (nothing-kept c.args.line commands c.args.self.now (WaitSome c.in-WaitSome.field-0) refl (λ q. record { starts = refl; waits = refl; frees = refl }) is)
+returns-in-WaitSome c =
+    λ commands is. rw c.in-WaitSome.is
+    (nothing-kept c.args.line commands c.args.self.now (WaitSome c.in-WaitSome.field-0) refl (λ q. record { starts = refl; waits = refl; frees = refl }) is)

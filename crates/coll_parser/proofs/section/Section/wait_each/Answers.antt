@@ -16,11 +16,13 @@ loop-index-preserved c =
     let idle = ap (λ (p : SectionEntry). record p { since = 0 }) c.index_mut.ensures.value in
     record {
       waited = c.loop-index.invariant.waited;
-      are = rw named (AreWaited-more (take i qs) c.get-q.result c.args.self.now.entries.items c.loop-index.self.entries.items _ _ known c.loop-index.invariant.are idle);
+      are = rw named (AreWaited-more (take i qs) c.get-q.result c.args.self.now.entries.items c.loop-index.self.entries.items _ _
+          known c.loop-index.invariant.are idle);
     }
 
 pub returns : goal.returns
 returns c = λ line commands is.
-    let whole : take c.loop-index.index c.args.named.now ≡ c.args.named.now = take-all c.args.named.now c.loop-index.index (omega (arith, c.loop-index-test.false, c.len-index-end.ensures)) in
+    let whole : take c.loop-index.index c.args.named.now ≡ c.args.named.now =
+    take-all c.args.named.now c.loop-index.index (omega (arith, c.loop-index-test.false, c.len-index-end.ensures)) in
     wait_each-kept line commands c.args.self.now c.loop-index.self c.args.named.now c.requires c.loop-index.invariant.waited
     (subst (λ (qs : List ℕ). AreWaited qs c.args.self.now.entries.items c.loop-index.self.entries.items) whole c.loop-index.invariant.are) is
