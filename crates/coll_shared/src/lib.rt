@@ -16,12 +16,10 @@
 //! | `combiner` | `Combiner`: the lock and the records, and what the lock's holder does for all |
 //! | `combiner::held` | `Held`: the lock's guard, which can't be dropped |
 //! | `locked` | `Locked`: what the lock guards |
-//! | `made_plan` | `MadePlan`: a plan for the port and its second copy for the combiner |
 //! | `looking` | a port's calls on the guarded state, in contracts that still hold once the lock is free |
 //! | `publishing` | posts and starts, which the combiner makes if the lock isn't free |
 //! | `waiter` | waits: spin on the record, take the lock, park |
 //! | `turn` | what a waiting port, a test and a progress thread do with the lock |
-//! | `plans` | `Plans`: the plans that a port made last |
 //!
 //! ```
 //! let sum = Signature::allreduce(Op::Sum, Datatype::I32, 1);
@@ -42,8 +40,6 @@ mod gate;
 mod inspect;
 mod locked;
 mod looking;
-mod made_plan;
-mod plans;
 mod port;
 mod publication;
 mod publishing;

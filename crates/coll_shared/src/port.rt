@@ -12,9 +12,9 @@ ghost use Rattle.coll_machine.specs.Settings.{group_in};
 ghost use Rattle.coll_shared.specs.Ports.{opened};
 
 use crate::combiner::Combiner;
-use crate::plans::Plans;
 use coll_core::Communicators;
 use coll_kinds::{Refusal, Signature};
+use coll_plan_cache::Plans;
 use coll_plans::Plan;
 use coll_traced::{Entries, Spent, Tally};
 use std::alloc::Global;

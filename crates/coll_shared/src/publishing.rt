@@ -10,11 +10,11 @@ ghost use Rattle.coll_traced.specs.Prepared.{IsPreparedFor};
 ghost use Rattle.coll_shared.specs.Publications.{IsExpected};
 
 use crate::combiner::{Combiner, Held};
-use crate::plans::Plans;
 use crate::publication::{Content, Expected};
 use crate::record::PublicationRecord;
 use coll_core::{Contribution, Offer};
 use coll_kinds::{Refusal, Refused, Ticket};
+use coll_plan_cache::Plans;
 use coll_traced::{Entries, Operation, Prepared, Receipt, Tally};
 use std::alloc::Global;
 use std::rt::Clock;
