@@ -1,5 +1,6 @@
 -- The test of all entries finds an outcome exactly where the trace attests it.
-use Rattle.std.proofs.Common.{◌≡◌, ◌∙◌, ◌↔◌, ℕ, Bool, IsTrue, zero, suc, ◌<◌, ◌&&◌, true, eqb, List, [], ◌∷◌, length, get_or, sym, ◌⊎◌, inl, inr, refl, subst, arith}
+use Rattle.std.proofs.Common.{◌≡◌, ◌∙◌, ◌↔◌, ℕ, Bool, IsTrue, zero, suc, ◌<◌, ◌&&◌, true, eqb, List, [], ◌∷◌, length, get_or, sym, ◌⊎◌, inl, inr}
+use Rattle.std.proofs.Common.{refl, subst, arith}
 use Rattle.std.specs.Bool.{Decides}
 use Rattle.std.specs.List.{list_any}
 use Rattle.std.specs.Str.{bytes_eq}

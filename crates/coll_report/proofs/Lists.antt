@@ -1,5 +1,6 @@
 -- Lists with one more element or one place changed, and the requests on a communicator.
-use Rattle.std.proofs.Common.{◌≡◌, ℕ, zero, suc, ◌≤◌, ◌⊎◌, inl, inr, Bool, true, false, cond, eqb, List, [], ◌∷◌, ◌++◌, length, take, map, Some, refl, sym, ap, ◌∙◌, arith, eq-eqb, ne_eqb, append_assoc, append-nil}
+use Rattle.std.proofs.Common.{◌≡◌, ℕ, zero, suc, ◌≤◌, ◌⊎◌, inl, inr, Bool, true, false, cond, eqb, List, [], ◌∷◌, ◌++◌, length, take, map, Some, refl}
+use Rattle.std.proofs.Common.{sym, ap, ◌∙◌, arith, eq-eqb, ne_eqb, append_assoc, append-nil}
 use Rattle.std.specs.Prelude.{slice_get}
 use Rattle.std.proofs.lemmas.Option.{none-some, same_Some}
 use Rattle.std.proofs.lemmas.Bool.{cases_eq}
@@ -68,7 +69,8 @@ pub on_pushed : (c : ℕ) (xs : List Asked) (y : Asked) → y.comm ≡ c → on 
 on_pushed c [] y e = on_yes c y [] e
 on_pushed c (x ∷ xs) y e = go (eqb x.comm c) (on_pushed c xs y e)
   where
-    go : (b : Bool) → on c (xs ++ y ∷ []) ≡ on c xs ++ y ∷ [] → cond b (x ∷ on c (xs ++ y ∷ [])) (on c (xs ++ y ∷ [])) ≡ cond b (x ∷ on c xs) (on c xs) ++ y ∷ []
+    go : (b : Bool) → on c (xs ++ y ∷ []) ≡ on c xs ++ y ∷ []
+        → cond b (x ∷ on c (xs ++ y ∷ [])) (on c (xs ++ y ∷ [])) ≡ cond b (x ∷ on c xs) (on c xs) ++ y ∷ []
     go true h = ap (λ (l : List Asked). x ∷ l) h
     go false h = h
 
@@ -82,7 +84,8 @@ placed c [] q x e on_c = absurd (none-some x e)
 placed c (y ∷ xs) zero x e on_c = ap (λ (l : List Asked). slice_get l 0) (on_yes c y xs (ap (λ (r : Asked). r.comm) (same_Some y x e) ∙ on_c)) ∙ e
 placed c (y ∷ xs) (suc q) x e on_c = go (eqb y.comm c) (placed c xs q x e on_c)
   where
-    go : (b : Bool) → at_place xs c (length (on c (take q xs))) ≡ Some x → slice_get (cond b (y ∷ on c xs) (on c xs)) (length (cond b (y ∷ on c (take q xs)) (on c (take q xs)))) ≡ Some x
+    go : (b : Bool) → at_place xs c (length (on c (take q xs))) ≡ Some x
+        → slice_get (cond b (y ∷ on c xs) (on c xs)) (length (cond b (y ∷ on c (take q xs)) (on c (take q xs)))) ≡ Some x
     go true h = h
     go false h = h
 
@@ -92,7 +95,8 @@ placed c (y ∷ xs) (suc q) x e on_c = go (eqb y.comm c) (placed c xs q x e on_c
 abbrev pub grown : Asked → List (List ℕ) → Asked
 grown x more = asked_at x.comm x.sig (x.starts ++ more)
 
-pub signatures_changed : (c k : ℕ) (b : List ℕ) (xs : List Asked) → map (λ (x : Asked). x.sig) (on c (changed_at k (one_more b) xs)) ≡ map (λ (x : Asked). x.sig) (on c xs)
+pub signatures_changed : (c k : ℕ) (b : List ℕ) (xs : List Asked)
+    → map (λ (x : Asked). x.sig) (on c (changed_at k (one_more b) xs)) ≡ map (λ (x : Asked). x.sig) (on c xs)
 signatures_changed c k b [] = refl
 signatures_changed c zero b (x ∷ xs) = go (eqb x.comm c)
   where
@@ -101,7 +105,9 @@ signatures_changed c zero b (x ∷ xs) = go (eqb x.comm c)
     go false = refl
 signatures_changed c (suc k) b (x ∷ xs) = go (eqb x.comm c) (signatures_changed c k b xs)
   where
-    go : (t : Bool) → map (λ (x : Asked). x.sig) (on c (changed_at k (one_more b) xs)) ≡ map (λ (x : Asked). x.sig) (on c xs) → map (λ (x : Asked). x.sig) (cond t (x ∷ on c (changed_at k (one_more b) xs)) (on c (changed_at k (one_more b) xs))) ≡ map (λ (x : Asked). x.sig) (cond t (x ∷ on c xs) (on c xs))
+    go : (t : Bool) → map (λ (x : Asked). x.sig) (on c (changed_at k (one_more b) xs)) ≡ map (λ (x : Asked). x.sig) (on c xs)
+        → map (λ (x : Asked). x.sig) (cond t (x ∷ on c (changed_at k (one_more b) xs)) (on c (changed_at k (one_more b) xs)))
+        ≡ map (λ (x : Asked). x.sig) (cond t (x ∷ on c xs) (on c xs))
     go true h = ap (λ (l : List Signature). x.sig ∷ l) h
     go false h = h
 
@@ -116,7 +122,9 @@ place_unchanged c zero b (x ∷ xs) (suc j) = go (eqb x.comm c)
     go false = refl
 place_unchanged c (suc k) b (x ∷ xs) (suc j) = go (eqb x.comm c) (place_unchanged c k b xs j)
   where
-    go : (t : Bool) → length (on c (take j (changed_at k (one_more b) xs))) ≡ length (on c (take j xs)) → length (cond t (x ∷ on c (take j (changed_at k (one_more b) xs))) (on c (take j (changed_at k (one_more b) xs)))) ≡ length (cond t (x ∷ on c (take j xs)) (on c (take j xs)))
+    go : (t : Bool) → length (on c (take j (changed_at k (one_more b) xs))) ≡ length (on c (take j xs))
+        → length (cond t (x ∷ on c (take j (changed_at k (one_more b) xs))) (on c (take j (changed_at k (one_more b) xs))))
+        ≡ length (cond t (x ∷ on c (take j xs)) (on c (take j xs)))
     go true h = ap suc h
     go false h = h
 
@@ -149,20 +157,30 @@ pub grows_change : (k : ℕ) (b : List ℕ) (xs : List Asked) → Grows xs (chan
 grows_change k b [] c p x e = absurd (none-some x e)
 grows_change zero b (y ∷ xs) c p x e = go (eqb y.comm c) p e
   where
-    go : (t : Bool) (p : ℕ) → slice_get (cond t (y ∷ on c xs) (on c xs)) p ≡ Some x → (more : List (List ℕ)) × (slice_get (cond t (one_more b y ∷ on c xs) (on c xs)) p ≡ Some (grown x more))
+    go : (t : Bool) (p : ℕ) → slice_get (cond t (y ∷ on c xs) (on c xs)) p ≡ Some x
+        → (more : List (List ℕ)) × (slice_get (cond t (one_more b y ∷ on c xs) (on c xs)) p ≡ Some (grown x more))
     go true zero h = (b ∷ [], ap (λ (z : Asked). Some (grown z (b ∷ []))) (same_Some y x h))
     go true (suc p) h = ([], h ∙ ap Some (sym (grown_self x)))
     go false p h = ([], h ∙ ap Some (sym (grown_self x)))
 grows_change (suc k) b (y ∷ xs) c p x e = go (eqb y.comm c) p (λ p. grows_change k b xs c p x) e
   where
-    go : (t : Bool) (p : ℕ) → ((p : ℕ) → at_place xs c p ≡ Some x → (more : List (List ℕ)) × (at_place (changed_at k (one_more b) xs) c p ≡ Some (grown x more))) → slice_get (cond t (y ∷ on c xs) (on c xs)) p ≡ Some x → (more : List (List ℕ)) × (slice_get (cond t (y ∷ on c (changed_at k (one_more b) xs)) (on c (changed_at k (one_more b) xs))) p ≡ Some (grown x more))
+    go : (t : Bool) (p : ℕ)
+        → ((p : ℕ) → at_place xs c p ≡ Some x → (more : List (List ℕ)) × (at_place (changed_at k (one_more b) xs) c p ≡ Some (grown x more)))
+        → slice_get (cond t (y ∷ on c xs) (on c xs)) p ≡ Some x
+        → (more : List (List ℕ)) × (slice_get (cond t (y ∷ on c (changed_at k (one_more b) xs)) (on c (changed_at k (one_more b) xs))) p ≡ Some (grown x more))
     go true zero f h = ([], h ∙ ap Some (sym (grown_self x)))
     go true (suc p) f h = f p h
     go false p f h = f p h
 
 pub grows_asked : (cs : List Command) (xs : List Asked) → Grows xs (asked_from xs cs)
 grows_asked [] xs = grows_self xs
-grows_asked (Post comm sig given ∷ cs) xs = grows_trans xs (xs ++ asked_at comm sig (given ∷ []) ∷ []) (asked_from xs (Post comm sig given ∷ cs)) (grows_push xs (asked_at comm sig (given ∷ []))) (grows_asked cs (xs ++ asked_at comm sig (given ∷ []) ∷ []))
-grows_asked (Init comm sig ∷ cs) xs = grows_trans xs (xs ++ asked_at comm sig [] ∷ []) (asked_from xs (Init comm sig ∷ cs)) (grows_push xs (asked_at comm sig [])) (grows_asked cs (xs ++ asked_at comm sig [] ∷ []))
-grows_asked (Start q given ∷ cs) xs = grows_trans xs (changed_at q (one_more given) xs) (asked_from xs (Start q given ∷ cs)) (grows_change q given xs) (grows_asked cs (changed_at q (one_more given) xs))
+grows_asked (Post comm sig given ∷ cs) xs =
+    grows_trans xs (xs ++ asked_at comm sig (given ∷ []) ∷ []) (asked_from xs (Post comm sig given ∷ cs))
+    (grows_push xs (asked_at comm sig (given ∷ []))) (grows_asked cs (xs ++ asked_at comm sig (given ∷ []) ∷ []))
+grows_asked (Init comm sig ∷ cs) xs =
+    grows_trans xs (xs ++ asked_at comm sig [] ∷ []) (asked_from xs (Init comm sig ∷ cs)) (grows_push xs (asked_at comm sig []))
+    (grows_asked cs (xs ++ asked_at comm sig [] ∷ []))
+grows_asked (Start q given ∷ cs) xs =
+    grows_trans xs (changed_at q (one_more given) xs) (asked_from xs (Start q given ∷ cs)) (grows_change q given xs)
+    (grows_asked cs (changed_at q (one_more given) xs))
 grows_asked (Other ∷ cs) xs = grows_asked cs xs

@@ -26,9 +26,11 @@ silent g groups rank high (Started r t start bytes ∷ es) s u all l =
     let q = l.1.request in
     let mine = (started_mine g s r t bytes q l.1.is l.1.accepted).rank_is in
     let posted = all.posted t.slot q (found_is s t q l.1.is).1 in
-    passes g r rank (Started r t start bytes ∷ posts_of rank es) (posts_of rank es) (subst (λ k. k < g.ranks) mine (member_below g q.comm q.rank q.member groups posted.member_is)) high
+    passes g r rank (Started r t start bytes ∷ posts_of rank es) (posts_of rank es)
+    (subst (λ k. k < g.ranks) mine (member_below g q.comm q.rank q.member groups posted.member_is)) high
     ∙ silent g groups rank high es l.0 u (are_entered g s l.0 (Started r t start bytes) all l.1) l.2
-silent g groups rank high (Retired r t comm place start bytes ∷ es) s u all l = silent g groups rank high es l.0 u (are_entered g s l.0 (Retired r t comm place start bytes) all l.1) l.2
+silent g groups rank high (Retired r t comm place start bytes ∷ es) s u all l =
+    silent g groups rank high es l.0 u (are_entered g s l.0 (Retired r t comm place start bytes) all l.1) l.2
 silent g groups rank high (Freed r t ∷ es) s u all l = silent g groups rank high es l.0 u (are_entered g s l.0 (Freed r t) all l.1) l.2
 
 pub strangers_are_silent : StrangersAreSilent

@@ -11,7 +11,8 @@ use Rattle.coll_machine.proofs.Posted.{are_nothing}
 use Rattle.coll_report.proofs.Standing.{stands_nothing}
 use Rattle.coll_report.specs.Told.{retires, IsTraceOf, IsIdle, TracesTell, TracesCount}
 
-ends : (g : Setting) (script : ℕ → List Command) (es : List Entry) (u : State) → IsTraceOf g script es u → Ends g u (λ rank. asked (script rank)) es (λ r c p n. 0)
+ends : (g : Setting) (script : ℕ → List Command) (es : List Entry) (u : State) → IsTraceOf g script es u
+    → Ends g u (λ rank. asked (script rank)) es (λ r c p n. 0)
 ends g script es u is = run g is.groups (λ rank. asked (script rank)) es nothing u (λ r. []) (λ r. []) (λ r c p n. 0) is.leads
     (record { stands = stands_nothing g; fair = λ r c p n. unasked (λ h. none-some h.request h.is) refl })
     (are_nothing g)
@@ -38,8 +39,10 @@ one u xs count r c p n idle (over a d e) h = e
 pub traces_count : TracesCount
 traces_count g script es u is = record {
   never_twice = λ r c p n. subst (λ k. k ≤ 1) (same r c p n) (few u.request (e.now r) (e.last r c p n) r c p n (e.good.fair r c p n));
-  asked_for = λ r c p n not. sym (same r c p n) ∙ none u.request (e.now r) (e.last r c p n) r c p n (e.good.fair r c p n) (λ h. not (subst (λ (l : List Asked). IsAsked l c p n) (e.now_is r) h));
-  once = λ idle r c p n h. sym (same r c p n) ∙ one u (e.now r) (e.last r c p n) r c p n idle (e.good.fair r c p n) (subst (λ (l : List Asked). IsAsked l c p n) (sym (e.now_is r)) h);
+  asked_for = λ r c p n not. sym (same r c p n)
+      ∙ none u.request (e.now r) (e.last r c p n) r c p n (e.good.fair r c p n) (λ h. not (subst (λ (l : List Asked). IsAsked l c p n) (e.now_is r) h));
+  once = λ idle r c p n h. sym (same r c p n)
+      ∙ one u (e.now r) (e.last r c p n) r c p n idle (e.good.fair r c p n) (subst (λ (l : List Asked). IsAsked l c p n) (sym (e.now_is r)) h);
 }
   where
     e : Ends g u (λ rank. asked (script rank)) es (λ r c p n. 0)

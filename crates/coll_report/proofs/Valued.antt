@@ -30,7 +30,9 @@ some_given : (o : Option (List ℕ)) → (o ≢ None) → (b : List ℕ) × (o �
 some_given None d = absurd (d refl)
 some_given (Some b) d = (b, refl)
 
-module _ (g : Setting) (s : State) (now whole : Requests) (ts : Tickets) (h : Stands g s now ts) (posted : ArePosted g s) (grows : (r : ℕ) → Grows (now r) (whole r)) (slot start : ℕ) (q : Request) (sig : Signature) (here : s.request slot ≡ Some q) (sig_is : signature_of s q ≡ Some sig) (needed : (m : ℕ) → needs sig (size g q.comm) q.member m ≡ true → s.given (key_of q start) m ≢ None) where
+module _ (g : Setting) (s : State) (now whole : Requests) (ts : Tickets) (h : Stands g s now ts) (posted : ArePosted g s)
+    (grows : (r : ℕ) → Grows (now r) (whole r)) (slot start : ℕ) (q : Request) (sig : Signature) (here : s.request slot ≡ Some q)
+    (sig_is : signature_of s q ≡ Some sig) (needed : (m : ℕ) → needs sig (size g q.comm) q.member m ≡ true → s.given (key_of q start) m ≢ None) where
   own : Known g now ts slot (s.generation slot) q
   own = h.known slot q here
 
@@ -52,8 +54,11 @@ module _ (g : Setting) (s : State) (now whole : Requests) (ts : Tickets) (h : St
   -- the posting list has the signature that the rank asked for
   same_sig : own.asked.sig ≡ sig
   same_sig =
-      let list : s.posts q.comm q.member ≡ map (λ (x : Asked). x.sig) (on q.comm (now q.rank)) = h.lists q.comm q.member there.0 ∙ ap (λ r. map (λ (x : Asked). x.sig) (on q.comm (now r))) there.1 in
-      same_Some own.asked.sig sig (sym (get_map (λ (x : Asked). x.sig) (on q.comm (now q.rank)) q.place own.asked at_now) ∙ (ap (λ (l : List Signature). slice_get l q.place) (sym list) ∙ sig_is))
+      let list : s.posts q.comm q.member ≡ map (λ (x : Asked). x.sig) (on q.comm (now q.rank)) =
+      h.lists q.comm q.member there.0 ∙ ap (λ r. map (λ (x : Asked). x.sig) (on q.comm (now r))) there.1 in
+      same_Some own.asked.sig sig
+      (sym (get_map (λ (x : Asked). x.sig) (on q.comm (now q.rank)) q.place own.asked at_now)
+      ∙ (ap (λ (l : List Signature). slice_get l q.place) (sym list) ∙ sig_is))
 
   later : (more : List (List ℕ)) × (at_place (whole q.rank) q.comm q.place ≡ Some (grown own.asked more))
   later = grows q.rank q.comm q.place own.asked at_now
@@ -69,16 +74,22 @@ module _ (g : Setting) (s : State) (now whole : Requests) (ts : Tickets) (h : St
       ap (λ (o : Option (List ℕ)). unwrap_or o []) (get_range (λ m. unwrap_or (s.given key m) (replicate (given_len sig n m) 0)) 0 n p low)
       ∙ zeros (0 + p) p contribution.0 (omega arith) contribution.1 in
       let right : row_of (contributions g whole key) p ≡ contribution.0 =
-      ap (λ (o : Option (List ℕ)). unwrap_or o []) (get_map (λ rank. given_by start (at_place (whole rank) q.comm q.place)) (group g q.comm) p (rank_of g q.comm p) (slice_get-get_or (group g q.comm) p 0 low))
+      ap (λ (o : Option (List ℕ)). unwrap_or o [])
+      (get_map (λ rank. given_by start (at_place (whole rank) q.comm q.place)) (group g q.comm) p (rank_of g q.comm p)
+      (slice_get-get_or (group g q.comm) p 0 low))
       ∙ (ap (given_by start) more.1 ∙ ap (λ (o : Option (List ℕ)). unwrap_or o []) (get_longer gave.asked.starts more.0 start contribution.0 gave.given)) in
       left ∙ sym right
     where
       zeros : (i p : ℕ) (b : List ℕ) → i ≡ p → s.given key p ≡ Some b → unwrap_or (s.given key i) (replicate (given_len sig n i) 0) ≡ b
-      zeros i p b e is = ap (λ i. unwrap_or (s.given key i) (replicate (given_len sig n i) 0)) e ∙ ap (λ (o : Option (List ℕ)). unwrap_or o (replicate (given_len sig n p) 0)) is
+      zeros i p b e is =
+          ap (λ i. unwrap_or (s.given key i) (replicate (given_len sig n i) 0)) e
+          ∙ ap (λ (o : Option (List ℕ)). unwrap_or o (replicate (given_len sig n p) 0)) is
 
   pub value_is : value sig (filled sig n (s.given key)) q.member ≡ outcome g whole q.rank key
   value_is =
-      values_read_needs sig n q.member (filled sig n (s.given key)) (contributions g whole key) (ap (λ (x : Signature). broken x n) (same_Some sig entry.sig (sym sig_is ∙ entry.sig_is)) ∙ entry.checked) there.0
-      (length_range (λ m. unwrap_or (s.given key m) (replicate (given_len sig n m) 0)) 0 n) (length-map (group g q.comm) (λ rank. given_by start (at_place (whole rank) q.comm q.place))) same_row
+      values_read_needs sig n q.member (filled sig n (s.given key)) (contributions g whole key)
+      (ap (λ (x : Signature). broken x n) (same_Some sig entry.sig (sym sig_is ∙ entry.sig_is)) ∙ entry.checked) there.0
+      (length_range (λ m. unwrap_or (s.given key m) (replicate (given_len sig n m) 0)) 0 n)
+      (length-map (group g q.comm) (λ rank. given_by start (at_place (whole rank) q.comm q.place))) same_row
       ∙ sym (ap (λ (o : Option Asked). value_for o (contributions g whole key) (unwrap_or (member_of q.rank (group g q.comm)) 0)) later.1
       ∙ ((λ z. value (same_sig z) (contributions g whole key) (unwrap_or (entry.member_is z) 0))))

@@ -33,8 +33,8 @@ pub fn rows_are_told()
     ensures { RowsAreTold }
 {}
 
-/// The traces of the test vectors are those of closed engines whose ranks did what scripts say, so what the law and
-/// [`crate::Report::new`] ask for can be met.
+/// The traces of the test vectors are those of closed engines whose ranks did what scripts say, so what the law asks for
+/// can be met.
 pub fn rows_are_closed()
     ensures { RowsAreClosed }
 {}

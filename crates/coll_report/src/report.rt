@@ -6,14 +6,14 @@ ghost use Rattle.coll_report.specs.Scripts.{Command, asked};
 ghost use Rattle.coll_core.specs.Configs.{setting_by};
 ghost use Rattle.coll_report.specs.Attested.{HandedOut, IsAttested, attests, key_of};
 ghost use Rattle.coll_report.specs.Posts.{posts_left};
-ghost use Rattle.coll_report.specs.Reports.{Closed, IsClosed, closed_by};
+ghost use Rattle.coll_report.specs.Reports.{Closed, EndsWith, IsClosed, closed_by};
 ghost use Rattle.coll_report.specs.Scripted.{Follows, Tells};
 ghost use Rattle.coll_report.specs.Traces.{entries_of};
 ghost use Rattle.coll_report.specs.Views.{groups_seen, seen, trace_seen};
 
 use crate::entry::Entry;
 use crate::posts::Posts;
-use coll_core::{Config, Outcome};
+use coll_core::{Config, Core, Outcome};
 use std::marker::Model;
 
 /// How many entries of a trace are a rank's. Linear in the trace.
@@ -74,11 +74,13 @@ impl Model for Report {
 }
 
 impl Report {
-    /// The report of a closed engine. `config` is what the engine was opened with.
-    pub fn new(config: Config, trace: Vec<Entry>) -> Report
-        requires { IsClosed (closed_by config trace.items) }
+    /// The report of an engine that is closed. It takes the engine's core, which has come to the end of the trace, so only who closes an
+    /// engine makes a report. `config` is what the engine was opened with.
+    pub fn new(engine: Core, config: Config, trace: Vec<Entry>) -> Report
+        requires { EndsWith engine (closed_by config trace.items) }
         ensures { result ≡ closed_by config trace.items }
     {
+        let _engine = engine;
         Report { config, trace }
     }
 
