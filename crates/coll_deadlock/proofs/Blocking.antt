@@ -71,14 +71,17 @@ module _ (p : Parts) (lines : ℕ → List Command) (s : Standing) (run : IsRunO
   completable rank q t held active done =
       let a = active_found s.machine t active in
       let may : refusal (setting p) s.machine.state (Retire rank t) ≡ None = accepted hears_here (setting p) lines s rank q t a.request run.reached held a.is in
-      subst (λ (m : Machine). (refusal (setting p) m.state (Retire rank t) ≡ None) × (phase_in m t ≡ Some Done)) run.machine_is (may, done_here (setting p) s.machine rank t a done)
+      subst (λ (m : Machine). (refusal (setting p) m.state (Retire rank t) ≡ None) × (phase_in m t ≡ Some Done)) run.machine_is
+      (may, done_here (setting p) s.machine rank t a done)
 
-  pending : (rank q : ℕ) (t : Ticket) → (s.holds rank).of q ≡ Some t → is_active s.machine (Some t) ≡ true → (IsDone p rank t → ⊥) → is_pending s.machine ((s.holds rank).of q) ≡ true
+  pending : (rank q : ℕ) (t : Ticket) → (s.holds rank).of q ≡ Some t → is_active s.machine (Some t) ≡ true
+      → (IsDone p rank t → ⊥) → is_pending s.machine ((s.holds rank).of q) ≡ true
   pending rank q t held active blocked =
       let undone : s.machine.done t.slot ≡ false = not_so (s.machine.done t.slot) (λ done. blocked (completable rank q t held active done)) in
       ap (is_pending s.machine) held ∙ (λ z. active z && not (undone z))
 
-  none_done : (rank : ℕ) (qs : List ℕ) (tickets : List Ticket) → AreListed (s.holds rank) qs tickets → All (λ t. IsDone p rank t → ⊥) tickets → NoneDone s.machine (s.holds rank) qs
+  none_done : (rank : ℕ) (qs : List ℕ) (tickets : List Ticket) → AreListed (s.holds rank) qs tickets
+      → All (λ t. IsDone p rank t → ⊥) tickets → NoneDone s.machine (s.holds rank) qs
   none_done rank qs tickets listed blocked q among = go ((s.holds rank).of q) refl
     where
       go : (o : Option Ticket) → (s.holds rank).of q ≡ o → is_done s.machine ((s.holds rank).of q) ≡ false
@@ -93,7 +96,8 @@ module _ (p : Parts) (lines : ℕ → List Command) (s : Standing) (run : IsRunO
   waits rank _ _ (in_wait_some qs q tickets among active listed) blocked = stalls.wait_some qs q among active (none_done rank qs tickets listed blocked)
   waits rank _ _ (in_wait_any qs q tickets among active listed) blocked = stalls.wait_any qs q among active (none_done rank qs tickets listed blocked)
 
-  no_init : (rank : ℕ) (c : Command) (wait : WaitFor) → IsInLine s.machine rank (s.holds rank) c wait → IsBlocked p wait → (comm : ℕ) (sig : Signature) → c ≡ Init comm sig → ⊥
+  no_init : (rank : ℕ) (c : Command) (wait : WaitFor) → IsInLine s.machine rank (s.holds rank) c wait → IsBlocked p wait
+      → (comm : ℕ) (sig : Signature) → c ≡ Init comm sig → ⊥
   no_init rank _ _ (awake c) blocked comm sig e = absurd blocked
   no_init rank _ _ (in_wait q t held active) blocked comm sig e = absurd cc
   no_init rank _ _ (in_wait_all qs q t among held active) blocked comm sig e = absurd cc
@@ -103,7 +107,9 @@ module _ (p : Parts) (lines : ℕ → List Command) (s : Standing) (run : IsRunO
   all_wait : (list : List WaitFor) → AreAtLines list lines s → All (IsBlocked p) list → AllWait (setting p) lines s
   all_wait list at blocked = record {
     waits = λ rank c get. (let w = at rank c get in waits rank c w.wait w.in_line (All-slice_get (IsBlocked p) list rank w.wait blocked w.is));
-    returns = λ rank comm sig get. (let w = at rank (Init comm sig) get in no_init rank (Init comm sig) w.wait w.in_line (All-slice_get (IsBlocked p) list rank w.wait blocked w.is) comm sig refl);
+    returns = λ rank comm sig get.
+        (let w =
+        at rank (Init comm sig) get in no_init rank (Init comm sig) w.wait w.in_line (All-slice_get (IsBlocked p) list rank w.wait blocked w.is) comm sig refl);
   }
 
 module _ (t : Traced) (free : FreeLock (tables t.core)) (heard : AreDoneOnceHeard t.core) (groups : AreGroups (setting t.core)) where

@@ -1,5 +1,6 @@
 -- Each call of the core carries a line of a job out.
-use Rattle.std.proofs.Common.{◌≡◌, ℕ, Bool, true, false, ◌&&◌, ◌||◌, not, eqb, eqb-true, eq-eqb, List, [], ◌∷◌, Option, Some, None, inl, refl, sym, ap, subst, ◌∙◌}
+use Rattle.std.proofs.Common.{◌≡◌, ℕ, Bool, true, false, ◌&&◌, ◌||◌, not, eqb, eqb-true, eq-eqb, List, [], ◌∷◌, Option, Some, None, inl, refl, sym}
+use Rattle.std.proofs.Common.{ap, subst, ◌∙◌}
 use Rattle.std.proofs.lemmas.Bool.{false≢true}
 use Rattle.std.specs.Prelude.{option_map}
 use Rattle.coll_kinds.specs.declared.ticket.Ticket.{Ticket}
@@ -38,7 +39,8 @@ record IsOver (m n : Machine) (t : Ticket) : Type 0 where
   before : m.done t.slot ≡ true
   after : n.done t.slot ≡ false
 
-retire_over : (g : Setting) (rank who comm place begin : ℕ) (bytes : List ℕ) (t : Ticket) (m n : Machine) → MachineStep g m (calls.Retire rank t) (calls.Outcome who comm place begin bytes) n → IsOver m n t
+retire_over : (g : Setting) (rank who comm place begin : ℕ) (bytes : List ℕ) (t : Ticket) (m n : Machine)
+    → MachineStep g m (calls.Retire rank t) (calls.Outcome who comm place begin bytes) n → IsOver m n t
 retire_over g rank who comm place begin bytes t _ _ (machines.retire {s} {u} {done} _ _ _ _ _ _ r d) = record { before = d; after = put_same done t.slot false }
 
 none_kept : (n : Machine) (t : Ticket) → n.done t.slot ≡ false → is_done n (kept n.state t) ≡ false
@@ -83,7 +85,8 @@ inactive_done m (Some t) e = first_false (is_active m (Some t)) (m.done t.slot) 
 
 needless_wait : (g : Setting) (rank : ℕ) (m : Machine) (h : Holding) (q : ℕ) → is_active m (h.of q) ≡ false → Carries g rank m h (Wait q) m h
 needless_wait g rank m h q e =
-    standings.wait q (among_one (λ p. is_pending m (h.of p) ≡ false) q (inactive_pending m (h.of q) e)) standings.none (among_one (λ p. is_done m (h.of p) ≡ false) q (inactive_done m (h.of q) e))
+    standings.wait q (among_one (λ p. is_pending m (h.of p) ≡ false) q (inactive_pending m (h.of q) e)) standings.none
+    (among_one (λ p. is_done m (h.of p) ≡ false) q (inactive_done m (h.of q) e))
 
 undone_test : (g : Setting) (rank : ℕ) (m : Machine) (h : Holding) (q : ℕ) → is_done m (h.of q) ≡ false → Carries g rank m h (Test q) m h
 undone_test g rank m h q e = standings.test q standings.none (among_one (λ p. is_done m (h.of p) ≡ false) q e)
@@ -92,16 +95,24 @@ undone_test g rank m h q e = standings.test q standings.none (among_one (λ p. i
 
 pub calls_carry_out : (r : Parts) → GoesOnByCalls r → CallsCarryOut r
 calls_carry_out r goes p lines s rank run set = record {
-  post = λ comm offer t get step. goes p lines s rank (Post comm offer.plan.sig offer.bytes) step.0 (one_more (s.holds rank) t) run set get (standings.post comm offer.plan.sig offer.bytes (planned offer.plan) t refl step.1) step.2;
-  init = λ comm plan t get step. goes p lines s rank (Init comm plan.sig) (seen r) (one_more (s.holds rank) t) run set get (standings.init comm plan.sig (planned plan) t refl step) (inl refl);
+  post = λ comm offer t get step. goes p lines s rank (Post comm offer.plan.sig offer.bytes) step.0 (one_more (s.holds rank) t)
+      run set get (standings.post comm offer.plan.sig offer.bytes (planned offer.plan) t refl step.1) step.2;
+  init = λ comm plan t get step. goes p lines s rank (Init comm plan.sig) (seen r) (one_more (s.holds rank) t) run set get
+      (standings.init comm plan.sig (planned plan) t refl step) (inl refl);
   start = λ q t given get held step. goes p lines s rank (Start q given) step.0 (s.holds rank) run set get (standings.start q given t held step.1) step.2;
-  free = λ q t get held step. goes p lines s rank (Free q) (seen r) (holding_at (s.holds rank) q (kept (seen r).state t)) run set get (standings.free q t held step) (inl refl);
+  free = λ q t get held step. goes p lines s rank (Free q) (seen r) (holding_at (s.holds rank) q (kept (seen r).state t)) run set
+      get (standings.free q t held step) (inl refl);
   wait = λ q comm place start bytes t get held step.
-      goes p lines s rank (Wait q) (seen r) (holding_at (s.holds rank) q (kept (seen r).state t)) run set get (waited (setting p) rank (seen p) (seen r) (s.holds rank) q comm place start bytes t held step) (inl refl);
+      goes p lines s rank (Wait q) (seen r) (holding_at (s.holds rank) q (kept (seen r).state t)) run set get
+      (waited (setting p) rank (seen p) (seen r) (s.holds rank) q comm place start bytes t held step) (inl refl);
   test = λ q comm place start bytes t get held step.
-      goes p lines s rank (Test q) (seen r) (holding_at (s.holds rank) q (kept (seen r).state t)) run set get (tested (setting p) rank (seen p) (seen r) (s.holds rank) q comm place start bytes t held step) (inl refl);
+      goes p lines s rank (Test q) (seen r) (holding_at (s.holds rank) q (kept (seen r).state t)) run set get
+      (tested (setting p) rank (seen p) (seen r) (s.holds rank) q comm place start bytes t held step) (inl refl);
   wait_any = λ qs q comm place start bytes t get among held step.
-      goes p lines s rank (WaitAny qs) (seen r) (holding_at (s.holds rank) q (kept (seen r).state t)) run set get (standings.wait_any qs q comm place start bytes t among held step) (inl refl);
-  needless = λ q get idle same. goes p lines s rank (Wait q) (seen p) (s.holds rank) run set get (needless_wait (setting p) rank (seen p) (s.holds rank) q idle) (inl (sym same));
-  undone = λ q get not_yet same. goes p lines s rank (Test q) (seen p) (s.holds rank) run set get (undone_test (setting p) rank (seen p) (s.holds rank) q not_yet) (inl (sym same));
+      goes p lines s rank (WaitAny qs) (seen r) (holding_at (s.holds rank) q (kept (seen r).state t)) run set get
+      (standings.wait_any qs q comm place start bytes t among held step) (inl refl);
+  needless = λ q get idle same. goes p lines s rank (Wait q) (seen p) (s.holds rank) run set get
+      (needless_wait (setting p) rank (seen p) (s.holds rank) q idle) (inl (sym same));
+  undone = λ q get not_yet same. goes p lines s rank (Test q) (seen p) (s.holds rank) run set get
+      (undone_test (setting p) rank (seen p) (s.holds rank) q not_yet) (inl (sym same));
 }

@@ -1,5 +1,6 @@
 -- The worked rows.
-use Rattle.std.proofs.Common.{◌≡◌, ℕ, suc, ◌<◌, ◌⊎◌, inl, inr, false, true, ltb, List, [], ◌∷◌, length, Option, Some, None, refl, sym, ap, subst, ◌∙◌, arith, ltb-true, le-ltb}
+use Rattle.std.proofs.Common.{◌≡◌, ℕ, suc, ◌<◌, ◌⊎◌, inl, inr, false, true, ltb, List, [], ◌∷◌, length, Option, Some, None, refl, sym, ap, subst, ◌∙◌}
+use Rattle.std.proofs.Common.{arith, ltb-true, le-ltb}
 use Rattle.std.proofs.lemmas.Bool.{cases_eq, and_parts, false≢true}
 use Rattle.std.proofs.lemmas.Option.{none-some, same_Some}
 use Rattle.std.specs.Prelude.{slice_get}
@@ -56,7 +57,8 @@ one_is_early early = go (early 0 refl)
         let same : once_more first ≡ has.request = same_Some (once_more first) has.request has.is in
         let zero : has.start ≡ 0 = first_start has.start has.request.starts has.heard.ready.start_is (ap (λ (r : Request). r.starts) (sym same)) in
         let own : barrier ≡ has.sig = same_Some barrier has.sig (ap (signature_of one_posted.state) same ∙ has.heard.ready.sig_is) in
-        has.heard.ready.needed 1 (sym (λ z. needs (own z) (size pair (same z).comm) (same z).member 1)) (λ z. one_posted.state.given (key_of (sym same z) (zero z)) 1)
+        has.heard.ready.needed 1 (sym (λ z. needs (own z) (size pair (same z).comm) (same z).member 1))
+        (λ z. one_posted.state.given (key_of (sym same z) (zero z)) 1)
 
 -- ---- one rank posts a barrier and waits for it
 
@@ -74,7 +76,9 @@ abbrev has_posted : Standing
 has_posted = carried_out beginning 0 posted (one_more nothing_made only_ticket)
 
 posted_run : ReachesBy hears_here one_rank (lines_of lone) has_posted
-posted_run = waiting.goes_on waiting.begins (waiting.carries 0 (Post 0 barrier []) refl (standings.post 0 barrier [] (record { sig = barrier; n = 1; member = 0 }) only_ticket refl posts))
+posted_run =
+    waiting.goes_on waiting.begins
+    (waiting.carries 0 (Post 0 barrier []) refl (standings.post 0 barrier [] (record { sig = barrier; n = 1; member = 0 }) only_ticket refl posts))
 
 record IsNext (rank : ℕ) (c : Command) : Type 0 where
   only : rank ≡ 0
@@ -92,7 +96,8 @@ next_is rank c get = go (cases_eq rank 0)
 posted_waits : (rank : ℕ) (c : Command) → slice_get (lines_of lone rank) (has_posted.at rank) ≡ Some c → Waits one_rank (lines_of lone) has_posted rank c
 posted_waits rank c get =
     let next = next_is rank c get in
-    subst (λ r. Waits one_rank (lines_of lone) has_posted r c) (sym next.only) (subst (Waits one_rank (lines_of lone) has_posted 0) next.is (stalls.wait_all (0 ∷ []) 0 refl refl))
+    subst (λ r. Waits one_rank (lines_of lone) has_posted r c) (sym next.only)
+    (subst (Waits one_rank (lines_of lone) has_posted 0) next.is (stalls.wait_all (0 ∷ []) 0 refl refl))
 
 no_init : (rank comm : ℕ) (sig : Signature) → slice_get (lines_of lone rank) (has_posted.at rank) ≡ Some (Init comm sig) → ⊥
 no_init rank comm sig get = let e : WaitAll (0 ∷ []) ≡ Init comm sig = (next_is rank (Init comm sig) get).is in absurd cc

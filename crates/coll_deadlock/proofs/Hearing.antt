@@ -61,17 +61,22 @@ module _ (v : Tables) (free : FreeLock v) (slot : ℕ) (l : Live) (here : v.requ
       (all_served l.sig n (ap (λ sig. broken sig n) (sym mine) ∙ posted.checked) (above l.member n low) (groups l.comm).few).serves.lawful
 
   -- what has heard in the machine's words has heard in those of the tables,
-  in_tables : AreGroups v.setting → IsPosted v.setting (state v) (as_request l) → HasHeard hears_here v.setting (state v) (as_request l) start sig → locks.HasHeard v l
+  in_tables : AreGroups v.setting → IsPosted v.setting (state v) (as_request l)
+      → HasHeard hears_here v.setting (state v) (as_request l) start sig → locks.HasHeard v l
   in_tables groups posted has m hears none =
-      let low : m < n = heard_member n f (lawful groups posted) (length (f l.member).rounds) l.member m (member_at v.setting l.comm l.rank l.member posted.member_is).0 hears in
-      has.heard m low (ap (λ sig. hears_here sig n l.member m) own ∙ (heard_is_heard f (length (f l.member).rounds) l.member m).1 hears) (ap (λ (k : Key). v.given k m) key_is ∙ none)
+      let low : m < n =
+      heard_member n f (lawful groups posted) (length (f l.member).rounds) l.member m
+      (member_at v.setting l.comm l.rank l.member posted.member_is).0 hears in
+      has.heard m low (ap (λ sig. hears_here sig n l.member m) own
+      ∙ (heard_is_heard f (length (f l.member).rounds) l.member m).1 hears) (ap (λ (k : Key). v.given k m) key_is ∙ none)
 
   -- and the other way round
   in_machine : locks.HasHeard v l → IsReady v.setting (state v) (as_request l) start sig → HasHeard hears_here v.setting (state v) (as_request l) start sig
   in_machine heard ready = record {
     ready = ready;
     heard = λ m low hears none.
-        heard m ((heard_is_heard f (length (f l.member).rounds) l.member m).0 (ap (λ sig. hears_here sig n l.member m) (sym own) ∙ hears)) (ap (λ (k : Key). v.given k m) (sym key_is) ∙ none);
+        heard m ((heard_is_heard f (length (f l.member).rounds) l.member m).0 (ap (λ sig. hears_here sig n l.member m) (sym own) ∙ hears))
+        (ap (λ (k : Key). v.given k m) (sym key_is) ∙ none);
   }
 
 settled : (v : Tables) → FreeLock v → AreGroups v.setting → ArePosted v.setting (state v)
@@ -79,8 +84,12 @@ settled : (v : Tables) → FreeLock v → AreGroups v.setting → ArePosted v.se
     → IsSettled v.setting (machine v)
 settled v free groups posted once slot start q sig is has =
     let a = asked_some (v.request slot) q is in
-    let mine : HasHeard hears_here v.setting (state v) (as_request a.live) start sig = subst (λ (q : Request). HasHeard hears_here v.setting (state v) q start sig) (sym a.same) has in
-    let there : v.home slot ≡ number_of (Done a.live.comm) = once slot a.live a.here mine.ready.active (in_tables v free slot a.live a.here start sig mine.ready.start_is mine.ready.sig_is groups (posted.posted slot (as_request a.live) (ap asked a.here)) mine) in
+    let mine : HasHeard hears_here v.setting (state v) (as_request a.live) start sig =
+    subst (λ (q : Request). HasHeard hears_here v.setting (state v) q start sig) (sym a.same) has in
+    let there : v.home slot ≡ number_of (Done a.live.comm) =
+    once slot a.live a.here mine.ready.active
+    (in_tables v free slot a.live a.here start sig mine.ready.start_is mine.ready.sig_is groups
+    (posted.posted slot (as_request a.live) (ap asked a.here)) mine) in
     ap (is_done (v.home slot)) a.here ∙ eq-eqb (v.home slot) (number_of (Done a.live.comm)) there
 
 pub quiet_is_settled : (p : Parts) → FreeLock (tables p) → AreDoneOnceHeard p → QuietIsSettled p
@@ -98,5 +107,6 @@ none_early p between free heard slot done = go ((tables p).request slot) refl do
           start = held.start;
           sig = held.sig;
           is = ap asked e;
-          heard = in_machine (tables p) free slot l e held.start held.sig held.ready.start_is held.ready.sig_is (heard.not_before slot l e (eqb-true ((tables p).home slot) (number_of (Done l.comm)) d)) held.ready;
+          heard = in_machine (tables p) free slot l e held.start held.sig held.ready.start_is held.ready.sig_is
+              (heard.not_before slot l e (eqb-true ((tables p).home slot) (number_of (Done l.comm)) d)) held.ready;
         }

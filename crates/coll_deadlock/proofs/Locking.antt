@@ -38,18 +38,21 @@ early_in : (t u : Traced) → IsKnown u.core → setting u.core ≡ setting t.co
 early_in t u known set = subst (λ (g : Setting). NoneEarly g (seen u.core)) set (none_early u.core known.between known.free known.heard)
 
 -- a request becomes Done, or none
-finish_at : (g : Setting) (lines : ℕ → List Command) (s : Standing) (m n : Machine) (waits : List WaitFor) → MayFinish g m n → NoneEarly g n → ReachesBy hears_here g lines (record s { machine = m })
+finish_at : (g : Setting) (lines : ℕ → List Command) (s : Standing) (m n : Machine) (waits : List WaitFor) → MayFinish g m n
+    → NoneEarly g n → ReachesBy hears_here g lines (record s { machine = m })
     → AreAtLines waits lines (record s { machine = m }) → AreAtLines waits lines (record s { machine = n })
 finish_at g lines s m n waits (inl e) early r at = subst (λ (m : Machine). AreAtLines waits lines (record s { machine = m })) e at
 finish_at g lines s m n waits (inr step) early r at =
-    stay_at_lines hears_here g lines (record s { machine = m }) (record s { machine = n }) waits r (finish_is_step g n lines (record s { machine = m }) step early) (λ rank. inl refl) at
+    stay_at_lines hears_here g lines (record s { machine = m }) (record s { machine = n }) waits r
+    (finish_is_step g n lines (record s { machine = m }) step early) (λ rank. inl refl) at
 
 finishings : (g : Setting) (m n : Machine) → MayFinish g m n → Finishings g m n
 finishings g m n (inl e) = subst (λ (n : Machine). Finishings g m n) e core.none
 finishings g m n (inr step) = core.more core.none step
 
 -- the rank's port is awake
-woken : (lines : ℕ → List Command) (s : Standing) (old new : List WaitFor) (rank : ℕ) → LeavesAwake old new rank → AreAtLines old lines s → AreAtLines new lines s
+woken : (lines : ℕ → List Command) (s : Standing) (old new : List WaitFor) (rank : ℕ) → LeavesAwake old new rank
+    → AreAtLines old lines s → AreAtLines new lines s
 woken lines s old new rank wake at r c get = go (cases_eq r rank)
   where
     go : (r ≡ rank) ⊎ (r ≡ rank → ⊥) → IsAtLine new s.machine r (s.holds r) c
@@ -60,7 +63,8 @@ module _ (t u : Traced) (lines : ℕ → List Command) (s : Standing) (b : Comes
   abbrev g : Setting
   g = setting t.core
 
-  module _ (rank : ℕ) (c : Command) (mid : Machine) (i : Holding) (get : slice_get (lines rank) (s.at rank) ≡ Some c) (step : Carries g rank (seen t.core) (s.holds rank) c mid i)
+  module _ (rank : ℕ) (c : Command) (mid : Machine) (i : Holding) (get : slice_get (lines rank) (s.at rank) ≡ Some c)
+      (step : Carries g rank (seen t.core) (s.holds rank) c mid i)
       (finish : MayFinish g mid (seen u.core)) (wake : LeavesAwake t.waits u.waits rank) where
     by_line : StepsBy hears_here g lines s (carried_out s rank mid i)
     by_line = waiting.carries rank c get (subst (λ (m : Machine). Carries g rank m (s.holds rank) c mid i) (sym b.run.machine_is) step)
@@ -83,7 +87,8 @@ module _ (t u : Traced) (lines : ℕ → List Command) (s : Standing) (b : Comes
   gone : MayFinish g (seen t.core) (seen u.core) → u.waits ≡ t.waits → Comes u lines (record s { machine = seen u.core })
   gone finish waits = record {
     known = known;
-    run = goes_on_by_steps u.core (none_early u.core known.between known.free known.heard) t.core lines s b.run set (finishings g (seen t.core) (seen u.core) finish);
+    run = goes_on_by_steps u.core (none_early u.core known.between known.free known.heard) t.core lines s b.run set
+        (finishings g (seen t.core) (seen u.core) finish);
     at = subst (λ (waits : List WaitFor). AreAtLines waits lines (record s { machine = seen u.core })) (sym waits)
         (finish_at g lines s (seen t.core) (seen u.core) t.waits finish (early_in t u known set)
         (subst (λ (m : Machine). ReachesBy hears_here g lines (record s { machine = m })) b.run.machine_is b.run.reached)
@@ -96,7 +101,8 @@ comes lines _ _ (opens t n known opened waits none) = record {
   run = begins_where_opened t.core lines opened;
   at = subst (λ (waits : List WaitFor). AreAtLines waits lines beginning) (sym waits) (open_at_lines lines n none);
 }
-comes lines _ _ (carries {t} {s} u rank c mid i before known set get step finish wake) = carried t u lines s (comes lines t s before) known set rank c mid i get step finish wake
+comes lines _ _ (carries {t} {s} u rank c mid i before known set get step finish wake) =
+    carried t u lines s (comes lines t s before) known set rank c mid i get step finish wake
 comes lines _ _ (goes {t} {s} u before known set finish waits) = gone t u lines s (comes lines t s before) known set finish waits
 comes lines _ _ (notes {t} {s} u rank wait before same waits line) =
     let b = comes lines t s before in

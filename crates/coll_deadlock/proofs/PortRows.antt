@@ -27,7 +27,8 @@ only_wait waits at rank c get = go (cases_eq rank 0)
         absurd (none-some c (rw none at get))
 
 pub waits_at_line : WaitsAtLine
-waits_at_line = only_wait (ForOne 0 only_ticket ∷ []) (record { wait = ForOne 0 only_ticket; is = refl; in_line = in_wait_all (0 ∷ []) 0 only_ticket refl refl refl })
+waits_at_line =
+    only_wait (ForOne 0 only_ticket ∷ []) (record { wait = ForOne 0 only_ticket; is = refl; in_line = in_wait_all (0 ∷ []) 0 only_ticket refl refl refl })
 
 pub is_awake_at_line : IsAwakeAtLine
 is_awake_at_line = only_wait (Awake ∷ []) (record { wait = Awake; is = refl; in_line = awake (WaitAll (0 ∷ [])) })
@@ -62,7 +63,8 @@ pub other_is_at_no_line : OtherIsAtNoLine
 unfolding rank_of
 other_is_at_no_line at =
     let w = at 0 (WaitAll (0 ∷ [])) refl in
-    differ (rank_of w.wait) (ap rank_of (same_Some (ForOne 1 only_ticket) w.wait w.is)) (own_rank has_posted.machine (has_posted.holds 0) (WaitAll (0 ∷ [])) w.wait w.in_line)
+    differ (rank_of w.wait) (ap rank_of (same_Some (ForOne 1 only_ticket) w.wait w.is))
+    (own_rank has_posted.machine (has_posted.holds 0) (WaitAll (0 ∷ [])) w.wait w.in_line)
   where
     differ : (a : ℕ) → 1 ≡ a → a ≡ 0 → ⊥
     differ a e f = absurd (omega arith)

@@ -1,5 +1,6 @@
 -- A port that is registered in the call of its rank's next line is in that line.
-use Rattle.std.proofs.Common.{◌≡◌, ℕ, zero, suc, ◌<◌, Bool, true, false, ◌||◌, List, [], ◌∷◌, Contains, get_or, length, map, Option, Some, None, refl, sym, ap, subst, ◌∙◌, arith, eqb, eqb-true, eq-eqb}
+use Rattle.std.proofs.Common.{◌≡◌, ℕ, zero, suc, ◌<◌, Bool, true, false, ◌||◌, List, [], ◌∷◌, Contains, get_or, length, map, Option, Some, None, refl}
+use Rattle.std.proofs.Common.{sym, ap, subst, ◌∙◌, arith, eqb, eqb-true, eq-eqb}
 use Rattle.std.proofs.lemmas.Bool.{false≢true}
 use Rattle.std.specs.List.{cons_option, list_any}
 use Rattle.coll_kinds.specs.declared.ticket.Ticket.{Ticket}
@@ -65,11 +66,13 @@ among_at f (q ∷ qs) o d zero low e = record { q = q; among = among_head q qs; 
 among_at f (q ∷ qs) o d (suc k) low e = later_among f q qs o (among_at f qs o d k (omega arith) e)
 
 -- one of a list of which one passes
-any_among : (f : ℕ → Option Ticket) (test : Option Ticket → Bool) (qs : List ℕ) → list_any test (map f qs) ≡ true → (q : ℕ) × (is_among q qs ≡ true) × (test (f q) ≡ true)
+any_among : (f : ℕ → Option Ticket) (test : Option Ticket → Bool) (qs : List ℕ) → list_any test (map f qs) ≡ true
+    → (q : ℕ) × (is_among q qs ≡ true) × (test (f q) ≡ true)
 any_among f test [] e = absurd (false≢true e)
 any_among f test (p ∷ qs) e = go (test (f p)) refl (any_among f test qs) e
   where
-    go : (b : Bool) → test (f p) ≡ b → (list_any test (map f qs) ≡ true → (q : ℕ) × (is_among q qs ≡ true) × (test (f q) ≡ true)) → (b || list_any test (map f qs)) ≡ true
+    go : (b : Bool) → test (f p) ≡ b → (list_any test (map f qs) ≡ true → (q : ℕ) × (is_among q qs ≡ true) × (test (f q) ≡ true))
+        → (b || list_any test (map f qs)) ≡ true
         → (q : ℕ) × (is_among q (p ∷ qs) ≡ true) × (test (f q) ≡ true)
     go true is rest e = (p, among_head p qs, is)
     go false is rest e = let r = rest e in (r.0, among_tail (eqb p r.0) (is_among r.0 qs) r.1, r.2)
@@ -88,7 +91,8 @@ listed : (f : ℕ → Option Ticket) (qs : List ℕ) (q : ℕ) (t : Ticket) → 
 listed f [] q t among is = absurd (false≢true among)
 listed f (p ∷ qs) q t among is = go (eqb p q) refl (λ rest. listed f qs q t rest is) among
   where
-    go : (b : Bool) → eqb p q ≡ b → (is_among q qs ≡ true → Contains (tickets_in (map f qs)) t) → (b || is_among q qs) ≡ true → Contains (tickets_in (map f (p ∷ qs))) t
+    go : (b : Bool) → eqb p q ≡ b → (is_among q qs ≡ true → Contains (tickets_in (map f qs)) t) → (b || is_among q qs) ≡ true
+        → Contains (tickets_in (map f (p ∷ qs))) t
     go true e rest here =
         let first : f p ≡ Some t = ap f (eqb-true p q e) ∙ is in
         subst (λ (o : Option Ticket). Contains (cons_option o (tickets_in (map f qs))) t) (sym first) (contains_head t t (tickets_in (map f qs)) refl)
@@ -97,7 +101,8 @@ listed f (p ∷ qs) q t among is = go (eqb p q) refl (λ rest. listed f qs q t r
 -- ---- a call that waits
 
 module _ (m : Machine) (rank : ℕ) (h : Holding) where
-  one : (q : ℕ) (r : Option Ticket) (wait : WaitFor) → r ≡ h.of q → asked.is_pending m r ≡ true → (t : Ticket) × (r ≡ Some t) × (wait ≡ ForOne rank t) → IsInLine m rank h (Wait q) wait
+  one : (q : ℕ) (r : Option Ticket) (wait : WaitFor) → r ≡ h.of q → asked.is_pending m r ≡ true
+      → (t : Ticket) × (r ≡ Some t) × (wait ≡ ForOne rank t) → IsInLine m rank h (Wait q) wait
   one q r wait same unmet w =
       subst (λ (wait : WaitFor). IsInLine m rank h (Wait q) wait) (sym w.2)
       (in_wait q w.0 (sym same ∙ w.1) (pending_active m (Some w.0) (ap (asked.is_pending m) (sym w.1) ∙ unmet)))
@@ -112,7 +117,8 @@ module _ (m : Machine) (rank : ℕ) (h : Holding) where
   some_listed : (qs : List ℕ) (list : List (Option Ticket)) → list ≡ map h.of qs → AreListed h qs (tickets_in list)
   some_listed qs list same q t among is = subst (λ (list : List (Option Ticket)). Contains (tickets_in list) t) (sym same) (listed h.of qs q t among is)
 
-  some_active : (qs : List ℕ) (list : List (Option Ticket)) → list ≡ map h.of qs → list_any (asked.is_active m) list ≡ true → (q : ℕ) × (is_among q qs ≡ true) × (asked.is_active m (h.of q) ≡ true)
+  some_active : (qs : List ℕ) (list : List (Option Ticket)) → list ≡ map h.of qs → list_any (asked.is_active m) list ≡ true
+      → (q : ℕ) × (is_among q qs ≡ true) × (asked.is_active m (h.of q) ≡ true)
   some_active qs list same active = any_among h.of (asked.is_active m) qs (ap (list_any (asked.is_active m)) (sym same) ∙ active)
 
 pub registers_in_line : RegistersInLine
@@ -120,8 +126,10 @@ registers_in_line m rank h (Wait q) (One request) wait same unmet w = one m rank
 registers_in_line m rank h (WaitAll qs) (All requests) wait same unmet w = all m rank h qs requests.now wait same w
 registers_in_line m rank h (WaitSome qs) (Any requests) wait same unmet w =
     let a = some_active m rank h qs requests.now same unmet in
-    subst (λ (wait : WaitFor). IsInLine m rank h (WaitSome qs) wait) (sym w) (in_wait_some qs a.0 (tickets_in requests.now) a.1 (active_at m (h.of a.0) a.2) (some_listed m rank h qs requests.now same))
+    subst (λ (wait : WaitFor). IsInLine m rank h (WaitSome qs) wait) (sym w)
+    (in_wait_some qs a.0 (tickets_in requests.now) a.1 (active_at m (h.of a.0) a.2) (some_listed m rank h qs requests.now same))
 registers_in_line m rank h (WaitAny qs) (Any requests) wait same unmet w =
     let a = some_active m rank h qs requests.now same unmet in
-    subst (λ (wait : WaitFor). IsInLine m rank h (WaitAny qs) wait) (sym w) (in_wait_any qs a.0 (tickets_in requests.now) a.1 (active_at m (h.of a.0) a.2) (some_listed m rank h qs requests.now same))
+    subst (λ (wait : WaitFor). IsInLine m rank h (WaitAny qs) wait) (sym w)
+    (in_wait_any qs a.0 (tickets_in requests.now) a.1 (active_at m (h.of a.0) a.2) (some_listed m rank h qs requests.now same))
 registers_in_line m rank h c wanted wait same unmet w = absurd same

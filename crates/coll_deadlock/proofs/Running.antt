@@ -33,7 +33,8 @@ finish_is g _ _ (machines.finish {m} {done} slot f) = record { slot = slot; done
 pub finish_is_step : FinishIsStep
 finish_is_step g n lines s step early =
     let f = finish_is g s.machine n step in
-    let has : SlotHasHeard g s.machine.state f.slot = subst (λ (n : Machine). n.done f.slot ≡ true → SlotHasHeard g n.state f.slot) f.is (early f.slot) (put_same s.machine.done f.slot true) in
+    let has : SlotHasHeard g s.machine.state f.slot =
+    subst (λ (n : Machine). n.done f.slot ≡ true → SlotHasHeard g n.state f.slot) f.is (early f.slot) (put_same s.machine.done f.slot true) in
     subst (λ (n : Machine). StepsBy hears_here g lines s (record s { machine = n })) (sym f.is)
     (waiting.finishes f.slot has.start has.request has.sig has.is f.finishes.pending has.heard)
 
@@ -46,7 +47,8 @@ none_before g m n step early slot done =
     still : (other : ℕ) → put m.done other true slot ≡ true
     still other = go (put_cases m.done other true slot)
       where
-        go : ((slot ≡ other) × (put m.done other true slot ≡ true)) ⊎ ((slot ≡ other → ⊥) × (put m.done other true slot ≡ m.done slot)) → put m.done other true slot ≡ true
+        go : ((slot ≡ other) × (put m.done other true slot ≡ true)) ⊎ ((slot ≡ other → ⊥) × (put m.done other true slot ≡ m.done slot))
+            → put m.done other true slot ≡ true
         go (inl a) = a.1
         go (inr a) = a.1 ∙ done
 
@@ -56,17 +58,20 @@ pub begins_where_opened : BeginsWhereOpened
 begins_where_opened p lines e = record { machine_is = sym e; reached = waiting.begins }
 
 -- the machine that a run comes to may be said in other words
-reached_at : (g : Setting) (lines : ℕ → List Command) (s : Standing) (m n : Machine) → m ≡ n → ReachesBy hears_here g lines (record s { machine = m }) → ReachesBy hears_here g lines (record s { machine = n })
+reached_at : (g : Setting) (lines : ℕ → List Command) (s : Standing) (m n : Machine) → m ≡ n
+    → ReachesBy hears_here g lines (record s { machine = m }) → ReachesBy hears_here g lines (record s { machine = n })
 reached_at g lines s m n e r = subst (λ (m : Machine). ReachesBy hears_here g lines (record s { machine = m })) e r
 
 -- requests become Done, one after the other
-many_finish : (g : Setting) (lines : ℕ → List Command) (s : Standing) (m n : Machine) → Finishings g m n → NoneEarly g n → ReachesBy hears_here g lines (record s { machine = m })
+many_finish : (g : Setting) (lines : ℕ → List Command) (s : Standing) (m n : Machine) → Finishings g m n → NoneEarly g n
+    → ReachesBy hears_here g lines (record s { machine = m })
     → ReachesBy hears_here g lines (record s { machine = n })
 many_finish g lines s m _ core.none early r = r
 many_finish g lines s m _ (core.more {mid} {n} before step) early r =
     goes_on (many_finish g lines s m mid before (none_before g mid n step early) r) (finish_is_step g n lines (record s { machine = mid }) step early)
 
-may_finish : (g : Setting) (lines : ℕ → List Command) (s : Standing) (m n : Machine) → MayFinish g m n → NoneEarly g n → ReachesBy hears_here g lines (record s { machine = m })
+may_finish : (g : Setting) (lines : ℕ → List Command) (s : Standing) (m n : Machine) → MayFinish g m n → NoneEarly g n
+    → ReachesBy hears_here g lines (record s { machine = m })
     → ReachesBy hears_here g lines (record s { machine = n })
 may_finish g lines s m n (inl e) early r = reached_at g lines s m n e r
 may_finish g lines s m n (inr step) early r = goes_on r (finish_is_step g n lines (record s { machine = m }) step early)
@@ -83,23 +88,28 @@ module _ (r : Parts) (early : NoneEarly (setting r) (seen r)) where
     machine_is = refl;
     reached = same_setting (setting p) (setting r) lines (carried_out s rank (seen r) i) set
         (may_finish (setting p) lines (carried_out s rank mid i) mid (seen r) finish (early_there (setting r) (setting p) (seen r) set early)
-        (goes_on run.reached (waiting.carries rank c get (subst (λ (m : Machine). Carries (setting p) rank m (s.holds rank) c mid i) (sym run.machine_is) step))));
+        (goes_on run.reached (waiting.carries rank c get
+        (subst (λ (m : Machine). Carries (setting p) rank m (s.holds rank) c mid i) (sym run.machine_is) step))));
   }
 
   pub goes_on_by_steps : GoesOnBySteps r
   goes_on_by_steps p lines s run set steps = record {
     machine_is = refl;
     reached = same_setting (setting p) (setting r) lines (record s { machine = seen r }) set
-        (many_finish (setting p) lines s (seen p) (seen r) steps (early_there (setting r) (setting p) (seen r) set early) (reached_at (setting p) lines s s.machine (seen p) run.machine_is run.reached));
+        (many_finish (setting p) lines s (seen p) (seen r) steps (early_there (setting r) (setting p) (seen r) set early)
+        (reached_at (setting p) lines s s.machine (seen p) run.machine_is run.reached));
   }
 
-  stays : (p : Parts) (lines : ℕ → List Command) (s : Standing) → IsRunOf p lines s → setting r ≡ setting p → seen r ≡ seen p → IsRunOf r lines (record s { machine = seen r })
+  stays : (p : Parts) (lines : ℕ → List Command) (s : Standing) → IsRunOf p lines s → setting r ≡ setting p → seen r ≡ seen p
+      → IsRunOf r lines (record s { machine = seen r })
   stays p lines s run set same = record {
     machine_is = refl;
-    reached = same_setting (setting p) (setting r) lines (record s { machine = seen r }) set (reached_at (setting p) lines s s.machine (seen r) (run.machine_is ∙ sym same) run.reached);
+    reached = same_setting (setting p) (setting r) lines (record s { machine = seen r }) set
+        (reached_at (setting p) lines s s.machine (seen r) (run.machine_is ∙ sym same) run.reached);
   }
 
-  goes : (p : Parts) (lines : ℕ → List Command) (s : Standing) (finished : Bool) → IsRunOf p lines s → Goes p r finished → IsRunOf r lines (record s { machine = seen r })
+  goes : (p : Parts) (lines : ℕ → List Command) (s : Standing) (finished : Bool) → IsRunOf p lines s → Goes p r finished
+      → IsRunOf r lines (record s { machine = seen r })
   goes p lines s true run step = goes_on_by_steps p lines s run step.set (core.more core.none step.steps)
   goes p lines s false run step = stays p lines s run step.set step.steps
 

@@ -7,7 +7,8 @@ use Rattle.coll_kinds.specs.declared.signature.Signature.{Signature}
 use Rattle.coll_kinds.specs.declared.ticket.Ticket.{Ticket}
 use Rattle.coll_kinds.specs.Common.{put}
 use Rattle.coll_kinds.proofs.Puts.{put_at, put_other}
-use Rattle.coll_machine.specs.Common.{Setting, State, Machine, Request, found, new_request, once_more, rested, holding, created, key_of, Planned, MachineStep, Posts, Inits, Starts, Frees, Retires, Clears}
+use Rattle.coll_machine.specs.Common.{Setting, State, Machine, Request, found, new_request, once_more, rested, holding, created, key_of, Planned}
+use Rattle.coll_machine.specs.Common.{MachineStep, Posts, Inits, Starts, Frees, Retires, Clears}
 use Rattle.coll_machine.specs.Calls as calls
 use Rattle.coll_machine.specs.Machines as machines
 use Rattle.coll_machine.proofs.Accepted.{found_is, started_mine, retired_mine, freed_mine}
@@ -36,7 +37,8 @@ spares_on rank s u v first second = record {
 }
 
 -- a change of a slot that holds no request of the rank
-spares_holding : (rank : ℕ) (s : State) (slot : ℕ) (o : Option Request) → ((q : Request) → s.request slot ≡ Some q → q.rank ≡ rank → ⊥) → Spares rank s (holding s slot o)
+spares_holding : (rank : ℕ) (s : State) (slot : ℕ) (o : Option Request)
+    → ((q : Request) → s.request slot ≡ Some q → q.rank ≡ rank → ⊥) → Spares rank s (holding s slot o)
 spares_holding rank s slot o other = record {
   generation = λ i q e own. refl;
   request = λ i q e own. put_other s.request slot o i (λ same. other q (ap s.request (sym same) ∙ e) own) ∙ e;
@@ -49,7 +51,8 @@ spares_created rank s t q sig spare = record {
 }
 
 -- the request in the slot is of another rank
-of_other : (s : State) (slot rank other : ℕ) (r : Request) → (rank ≡ other → ⊥) → s.request slot ≡ Some r → r.rank ≡ other → (q : Request) → s.request slot ≡ Some q → q.rank ≡ rank → ⊥
+of_other : (s : State) (slot rank other : ℕ) (r : Request) → (rank ≡ other → ⊥) → s.request slot ≡ Some r → r.rank ≡ other
+    → (q : Request) → s.request slot ≡ Some q → q.rank ≡ rank → ⊥
 of_other s slot rank other r differ here is q e own = differ (sym own ∙ (ap (λ (q : Request). q.rank) (same_Some q r (sym e ∙ here)) ∙ is))
 
 module _ (g : Setting) (rank other : ℕ) (differ : rank ≡ other → ⊥) where
@@ -59,36 +62,43 @@ module _ (g : Setting) (rank other : ℕ) (differ : rank ≡ other → ⊥) wher
       subst (λ (u : State). Spares rank s u) (sym p.leaves)
       (record {
         generation = (spares_created rank s t q plan.sig p.new.spare).generation;
-        request = λ i r e own. put_other (put s.request t.slot (Some q)) t.slot (Some (once_more q)) i (λ same. none-some r (sym p.new.spare ∙ (ap s.request (sym same) ∙ e))) ∙ (spares_created rank s t q plan.sig p.new.spare).request i r e own;
+        request = λ i r e own. put_other (put s.request t.slot (Some q)) t.slot (Some (once_more q)) i
+            (λ same. none-some r (sym p.new.spare ∙ (ap s.request (sym same) ∙ e))) ∙ (spares_created rank s t q plan.sig p.new.spare).request i r e own;
       })
 
   spares_init : (s u : State) (t : Ticket) (comm place : ℕ) (plan : Planned) → Inits g s other t comm place plan u → Spares rank s u
-  spares_init s u t comm place plan p = subst (λ (u : State). Spares rank s u) (sym p.leaves) (spares_created rank s t (new_request other comm p.member place Persistent) plan.sig p.new.spare)
+  spares_init s u t comm place plan p =
+      subst (λ (u : State). Spares rank s u) (sym p.leaves) (spares_created rank s t (new_request other comm p.member place Persistent) plan.sig p.new.spare)
 
   spares_start : (s u : State) (t : Ticket) (begin : ℕ) (bytes : List ℕ) → Starts g s other t begin bytes u → Spares rank s u
   spares_start s u t begin bytes p =
-      let one = spares_holding rank s t.slot (Some (once_more p.request)) (of_other s t.slot rank other p.request differ (found_is s t p.request p.is).1 (started_mine g s other t bytes p.request p.is p.accepted).rank_is) in
+      let one = spares_holding rank s t.slot (Some (once_more p.request))
+      (of_other s t.slot rank other p.request differ (found_is s t p.request p.is).1 (started_mine g s other t bytes p.request p.is p.accepted).rank_is) in
       subst (λ (u : State). Spares rank s u) (sym p.leaves) (record { generation = one.generation; request = one.request })
 
   spares_free : (s u : State) (t : Ticket) → Frees g s other t u → Spares rank s u
   spares_free s u t p =
       let f = freed_mine g s other t p.accepted in
-      subst (λ (u : State). Spares rank s u) (sym p.leaves) (spares_holding rank s t.slot None (of_other s t.slot rank other f.request differ f.is f.idle_of.rank_is))
+      subst (λ (u : State). Spares rank s u) (sym p.leaves)
+      (spares_holding rank s t.slot None (of_other s t.slot rank other f.request differ f.is f.idle_of.rank_is))
 
   spares_retire : (s u : State) (t : Ticket) (comm place begin : ℕ) (bytes : List ℕ) → Retires g s other t comm place begin bytes u → Spares rank s u
   spares_retire s u t comm place begin bytes r = go r.leaves
     where
       one : Spares rank s (holding s t.slot (rested r.request))
-      one = spares_holding rank s t.slot (rested r.request) (of_other s t.slot rank other r.request differ (found_is s t r.request r.is).1 (retired_mine g s other t r.request r.is r.accepted))
+      one = spares_holding rank s t.slot (rested r.request)
+          (of_other s t.slot rank other r.request differ (found_is s t r.request r.is).1 (retired_mine g s other t r.request r.is r.accepted))
 
       go : Clears g (holding s t.slot (rested r.request)) (key_of r.request begin) u → Spares rank s u
       go (inl a) = subst (λ (u : State). Spares rank s u) (sym a.1) (record { generation = one.generation; request = one.request })
       go (inr a) = subst (λ (u : State). Spares rank s u) (sym a.1) one
 
-  post_spares : (comm : ℕ) (plan : Planned) (given : List ℕ) (t : Ticket) (m n : Machine) → MachineStep g m (calls.Post other comm plan given) (calls.Ticketed t) n → Spares rank m.state n.state
+  post_spares : (comm : ℕ) (plan : Planned) (given : List ℕ) (t : Ticket) (m n : Machine)
+      → MachineStep g m (calls.Post other comm plan given) (calls.Ticketed t) n → Spares rank m.state n.state
   post_spares comm plan given t _ _ (machines.post {s} {u} {done} _ _ place _ _ _ p) = spares_post s u t comm place plan given p
 
-  init_spares : (comm : ℕ) (plan : Planned) (t : Ticket) (m n : Machine) → MachineStep g m (calls.Init other comm plan) (calls.Ticketed t) n → Spares rank m.state n.state
+  init_spares : (comm : ℕ) (plan : Planned) (t : Ticket) (m n : Machine)
+      → MachineStep g m (calls.Init other comm plan) (calls.Ticketed t) n → Spares rank m.state n.state
   init_spares comm plan t _ _ (machines.init {s} {u} {done} _ _ place _ _ p) = spares_init s u t comm place plan p
 
   start_spares : (t : Ticket) (given : List ℕ) (m n : Machine) → MachineStep g m (calls.Start other t given) calls.Nothing n → Spares rank m.state n.state
@@ -97,13 +107,15 @@ module _ (g : Setting) (rank other : ℕ) (differ : rank ≡ other → ⊥) wher
   free_spares : (t : Ticket) (m n : Machine) → MachineStep g m (calls.Free other t) calls.Nothing n → Spares rank m.state n.state
   free_spares t _ _ (machines.free {s} {u} {done} _ _ p) = spares_free s u t p
 
-  retire_spares : (t : Ticket) (who comm place begin : ℕ) (bytes : List ℕ) (m n : Machine) → MachineStep g m (calls.Retire other t) (calls.Outcome who comm place begin bytes) n → Spares rank m.state n.state
+  retire_spares : (t : Ticket) (who comm place begin : ℕ) (bytes : List ℕ) (m n : Machine)
+      → MachineStep g m (calls.Retire other t) (calls.Outcome who comm place begin bytes) n → Spares rank m.state n.state
   retire_spares t who comm place begin bytes _ _ (machines.retire {s} {u} {done} _ _ _ _ _ _ r d) = spares_retire s u t comm place begin bytes r
 
   completes_spares : (qs : List ℕ) (m n : Machine) (h i : Holding) → Completes g other qs m h n i → Spares rank m.state n.state
   completes_spares qs m _ h _ standings.none = spares_self rank m.state
   completes_spares qs m _ h _ (standings.another {n} {last} {i} q comm place start bytes t among held step rest) =
-      spares_on rank m.state n.state last.state (retire_spares t other comm place start bytes m n step) (completes_spares qs n last (holding_at h q (kept n.state t)) i rest)
+      spares_on rank m.state n.state last.state (retire_spares t other comm place start bytes m n step)
+      (completes_spares qs n last (holding_at h q (kept n.state t)) i rest)
 
   carries_spares : (m n : Machine) (h i : Holding) (c : Command) → Carries g other m h c n i → Spares rank m.state n.state
   carries_spares m _ h _ _ (standings.post {n} comm sig given plan t is step) = post_spares comm plan given t m n step
@@ -124,11 +136,14 @@ active_stays : (m n : Machine) (rank : ℕ) (t : Ticket) (request : Request) →
 active_stays m n rank t request spares is own active =
     let there = found_is m.state t request is in
     let now : n.state.generation t.slot ≡ t.generation = spares.generation t.slot request there.1 own ∙ there.0 in
-    let same : found n.state t ≡ Some request = cond-true (eqb (n.state.generation t.slot) t.generation) (n.state.request t.slot) None (eq-eqb (n.state.generation t.slot) t.generation now) ∙ spares.request t.slot request there.1 own in
+    let same : found n.state t ≡ Some request =
+    cond-true (eqb (n.state.generation t.slot) t.generation) (n.state.request t.slot) None (eq-eqb (n.state.generation t.slot) t.generation now)
+    ∙ spares.request t.slot request there.1 own in
     ap active_in same ∙ (sym (ap active_in is) ∙ active)
 
 -- what is active while a rank's port waits in its line stays active, and the rank holds the same
-module _ (m n : Machine) (rank : ℕ) (h i : Holding) (same : h ≡ i) (stays : (q : ℕ) (t : Ticket) → h.of q ≡ Some t → is_active m (Some t) ≡ true → is_active n (Some t) ≡ true) where
+module _ (m n : Machine) (rank : ℕ) (h i : Holding) (same : h ≡ i)
+    (stays : (q : ℕ) (t : Ticket) → h.of q ≡ Some t → is_active m (Some t) ≡ true → is_active n (Some t) ≡ true) where
   held_active : (q : ℕ) → is_active m (h.of q) ≡ true → is_active n (h.of q) ≡ true
   held_active q e = go (h.of q) refl e
     where
@@ -162,14 +177,18 @@ found_active m t e = go (found m.state t) refl e
 
 pub stays_in_line : StaysInLine
 stays_in_line hears g lines s _ rank c wait run (waiting.finishes slot start q sig is pending has) at line =
-    line_there s.machine (record s.machine { done = put s.machine.done slot true }) rank (s.holds rank) (s.holds rank) refl (λ q t held active. active) c wait line
+    line_there s.machine (record s.machine { done = put s.machine.done slot true }) rank (s.holds rank) (s.holds rank) refl
+    (λ q t held active. active) c wait line
 stays_in_line hears g lines s _ rank c wait run (waiting.carries {n} {i} other said get step) at line = go (cases_eq rank other)
   where
     go : (rank ≡ other) ⊎ (rank ≡ other → ⊥) → IsInLine n rank (put s.holds other i rank) c wait
-    go (inl e) = absurd (one_on (put s.at other (suc (s.at other)) rank) (s.at other) (s.at rank) (s.at rank) (put_at s.at other (suc (s.at other)) rank e) at refl (ap s.at e))
+    go (inl e) =
+        absurd (one_on (put s.at other (suc (s.at other)) rank) (s.at other) (s.at rank) (s.at rank)
+        (put_at s.at other (suc (s.at other)) rank e) at refl (ap s.at e))
     go (inr differ) =
         line_there s.machine n rank (s.holds rank) (put s.holds other i rank) (sym (put_other s.holds other i rank differ))
         (λ q t held active. (
         let a = found_active s.machine t active in
-        active_stays s.machine n rank t a.request (carries_spares g rank other differ s.machine n (s.holds other) i said step) a.is (own_request hears g lines s rank q t a.request run held a.is) active))
+        active_stays s.machine n rank t a.request (carries_spares g rank other differ s.machine n (s.holds other) i said step)
+        a.is (own_request hears g lines s rank q t a.request run held a.is) active))
         c wait line

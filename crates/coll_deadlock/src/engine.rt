@@ -4,7 +4,8 @@
 ghost use Rattle.coll_core.specs.Cores.{seen, setting};
 ghost use Rattle.coll_deadlock.specs.CoreCalls.{CallsCarryOut};
 ghost use Rattle.coll_deadlock.specs.Heard.{NoneEarly};
-ghost use Rattle.coll_deadlock.specs.CoreLaws.{AlwaysHereNeverEnds, BeginsWhereOpened, ConfigsAreGroups, FinishIsStep, GoesOnByCalls, GoesOnByCommit, GoesOnByStep, GoesOnBySteps, GoesOnWhereNothingChanges, NeverHereEnds, QuietIsSettled, QuietStalls};
+ghost use Rattle.coll_deadlock.specs.CoreLaws.{AlwaysHereNeverEnds, BeginsWhereOpened, ConfigsAreGroups, FinishIsStep, GoesOnByCalls, GoesOnByCommit};
+ghost use Rattle.coll_deadlock.specs.CoreLaws.{GoesOnByStep, GoesOnBySteps, GoesOnWhereNothingChanges, NeverHereEnds, QuietIsSettled, QuietStalls};
 ghost use Rattle.coll_deadlock.specs.CoreRows.{BothAreUnsettled, HearsMore, OneIsEarly, WaitsUnsettled};
 
 use coll_core::Core;

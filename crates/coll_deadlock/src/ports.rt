@@ -1,7 +1,8 @@
 //! Theorems about engines whose ports are in the lines of a job. A call does nothing at run time;
 //! its contract is the theorem.
 
-ghost use Rattle.coll_deadlock.specs.PortLaws.{AlwaysHereIsNoEnd, GoesOn, NeverHereIsNoStall, NoStallUnderLock, NotedAtLines, OpenAtLines, RegistersInLine, StallIsStall, StayAtLines, StaysInLine, StepsMayFinish};
+ghost use Rattle.coll_deadlock.specs.PortLaws.{AlwaysHereIsNoEnd, GoesOn, NeverHereIsNoStall, NoStallUnderLock, NotedAtLines, OpenAtLines};
+ghost use Rattle.coll_deadlock.specs.PortLaws.{RegistersInLine, StallIsStall, StayAtLines, StaysInLine, StepsMayFinish};
 ghost use Rattle.coll_deadlock.specs.PortRows.{CrossedComesToNoEnd, EndedIsAtNoLine, IsAwakeAtLine, NobodyIsAtLine, OtherIsAtNoLine, WaitsAtLine};
 
 use coll_traced::{Entries, TracedCore};

@@ -29,7 +29,7 @@ fn all_follow(alloc: Global, script: &Script, report: &Report) -> Result<bool, A
         (λ all. IsTrue all ↔ AllFollow (unwrap_or script.now.ranks 0) script.now report.now) }
 {
     for rank in 0..script.history().ranks() {
-        let commands = script.commands_of(alloc, rank)?;
+        let commands = script.commands_of(rank)?;
         if !rank_follows(alloc, report.posts(rank), &commands)? {
             return Ok(false);
         }

@@ -96,7 +96,7 @@ fn carry_out_all<L: Entries, R: Wait + Clock, G: Gate, O: Observer>(
     caller: &mut Caller<L>,
 ) -> Result<(), Refusal> {
     let lines = lines_of(alloc, script, rank)?;
-    for (index, command) in script.commands_of(alloc, rank)?.into_iter().enumerate() {
+    for (index, command) in script.commands_of(rank)?.into_iter().enumerate() {
         let line = lines.get(index).copied().unwrap_or(0);
         carry_out(rt, gate, observer, line, command, caller)?;
     }

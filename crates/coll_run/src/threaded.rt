@@ -30,7 +30,8 @@ pub fn threaded_job<T: Threads + Wait + Clock + Sync, R: Read, W: Write>(
     requires unread { reader.old.reads ≡ 0 }
     requires workers { workers ≤ 8 }
     // What was written is the meaning of what was read, and nothing else.
-    ensures ok { OnOk result (IfSome (R.remaining reader.old.reader.now) (λ input. WritesMeaning input (W.contents writer.old.stream.now) (W.contents writer.new.stream.now))) }
+    ensures ok { OnOk result
+        (IfSome (R.remaining reader.old.reader.now) (λ input. WritesMeaning input (W.contents writer.old.stream.now) (W.contents writer.new.stream.now))) }
     // The fault of a text is the one that the definition of a text's meaning gives.
     ensures faults { IfErr result (IsInputFault (R.remaining reader.old.reader.now)) }
     // The result is a read fault only if the reader failed, and a write fault only if the writer did.

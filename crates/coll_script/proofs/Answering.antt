@@ -35,7 +35,8 @@ pub HasMeaning-read : (start : Option (List ℕ)) (text : List ℕ) → IfSome s
 HasMeaning-read None text read means = tt
 HasMeaning-read (Some input) text read means = ap (λ (read : Result (List ℕ) Fault). is_ok read) (meaning-read input text read) ∙ means
 
-pub IsInputFault-read : (fault : JobFault) (start : Option (List ℕ)) (text : List ℕ) → IfSome start (λ input. text ≡ take 1048577 input) → IsFaultOf text fault → IsInputFault start fault
+pub IsInputFault-read : (fault : JobFault) (start : Option (List ℕ)) (text : List ℕ)
+    → IfSome start (λ input. text ≡ take 1048577 input) → IsFaultOf text fault → IsInputFault start fault
 IsInputFault-read Read start text read fails = tt
 IsInputFault-read Write start text read fails = tt
 IsInputFault-read Memory start text read fails = tt
@@ -46,7 +47,8 @@ IsInputFault-read (Refused why) start text read means = HasMeaning-read start te
 IsInputFault-read NoThread start text read means = HasMeaning-read start text read means
 IsInputFault-read Torn start text read means = HasMeaning-read start text read means
 
-pub IsPlainFault-answer : (fault : JobFault) (start : Option (List ℕ)) (text : List ℕ) → IfSome start (λ input. text ≡ take 1048577 input) → IsAnswerFault text fault → IsPlainFault start fault
+pub IsPlainFault-answer : (fault : JobFault) (start : Option (List ℕ)) (text : List ℕ)
+    → IfSome start (λ input. text ≡ take 1048577 input) → IsAnswerFault text fault → IsPlainFault start fault
 IsPlainFault-answer Read start text read fails = tt
 IsPlainFault-answer Write start text read fails = tt
 IsPlainFault-answer (Text fault) None text read fails = tt
@@ -57,7 +59,8 @@ IsPlainFault-answer Memory start text read fails = tt
 IsPlainFault-answer NoThread start text read fails = absurd fails
 IsPlainFault-answer Torn start text read fails = absurd fails
 
-pub WritesMeaning-answer : (start : Option (List ℕ)) (text lines : List ℕ) (old new : Option (List ℕ)) → IfSome start (λ input. text ≡ take 1048577 input) → meaning text ≡ Ok lines → Appends old new lines
+pub WritesMeaning-answer : (start : Option (List ℕ)) (text lines : List ℕ) (old new : Option (List ℕ))
+    → IfSome start (λ input. text ≡ take 1048577 input) → meaning text ≡ Ok lines → Appends old new lines
     → IfSome start (λ input. WritesMeaning input old new)
 WritesMeaning-answer None text lines old new read means writes = tt
 WritesMeaning-answer (Some input) text lines old new read means writes = (lines, meaning-read input text read ∙ means, writes)

@@ -15,7 +15,8 @@ Consumes-more (Some a) (Some b) None xs ys first second = absurd second
 Consumes-more (Some a) (Some b) (Some c) xs ys first second = first ∙ ap (λ (rest : List ℕ). xs ++ rest) second ∙ sym (append_assoc xs ys c)
 
 -- all that a reader has is a text of at most that length
-pub take-whole : (start end : Option (List ℕ)) (text : List ℕ) (limit : ℕ) → Consumes start end text → IsAtEnd end → length text ≤ limit → IfSome start (λ input. text ≡ take limit input)
+pub take-whole : (start end : Option (List ℕ)) (text : List ℕ) (limit : ℕ) → Consumes start end text → IsAtEnd end
+    → length text ≤ limit → IfSome start (λ input. text ≡ take limit input)
 take-whole None end text limit consumed over short = tt
 take-whole (Some a) None text limit consumed over short = absurd consumed
 take-whole (Some a) (Some b) text limit consumed over short =
@@ -23,7 +24,8 @@ take-whole (Some a) (Some b) text limit consumed over short =
     sym (ap (take limit) whole ∙ take_all limit text short)
 
 -- a text of that length is the front of what a reader has
-pub take-front : (start end : Option (List ℕ)) (text : List ℕ) (limit : ℕ) → Consumes start end text → length text ≡ limit → IfSome start (λ input. text ≡ take limit input)
+pub take-front : (start end : Option (List ℕ)) (text : List ℕ) (limit : ℕ) → Consumes start end text → length text ≡ limit
+    → IfSome start (λ input. text ≡ take limit input)
 take-front None end text limit consumed len = tt
 take-front (Some a) None text limit consumed len = absurd consumed
 take-front (Some a) (Some b) text limit consumed len = sym (ap (take limit) consumed ∙ take_at text b limit len)

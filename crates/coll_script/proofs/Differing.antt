@@ -1,5 +1,6 @@
 -- The line of a mismatch is the first one that differs.
-use Rattle.std.proofs.Common.{◌≡◌, ℕ, zero, suc, ◌+◌, ◌<◌, ◌≤◌, Bool, true, false, cond, ltb, List, [], ◌∷◌, ◌++◌, ◌⊎◌, Option, Some, None, refl, ap, subst, sym, ◌∙◌, arith, inl, inr}
+use Rattle.std.proofs.Common.{◌≡◌, ℕ, zero, suc, ◌+◌, ◌<◌, ◌≤◌, Bool, true, false, cond, ltb, List, [], ◌∷◌, ◌++◌, ◌⊎◌, Option, Some, None, refl, ap}
+use Rattle.std.proofs.Common.{subst, sym, ◌∙◌, arith, inl, inr}
 use Rattle.std.specs.Prelude.{slice_get, flat_map}
 use Rattle.std.proofs.lemmas.Bool.Decides.{nat_tests}
 use Rattle.std.proofs.lemmas.List.Concat.{flat_map-cons}
@@ -48,8 +49,10 @@ flat_map-at f (x ∷ xs) line h = elim (among-parts line (f x) (flat_map f xs) (
 
 flat_map-in : {X : Type 0} (f : X → List ℕ) (xs : List X) (line k : ℕ) (x : X) → slice_get xs k ≡ Some x → Among line (f x) → Among line (flat_map f xs)
 flat_map-in f [] line k x is h = absurd (none-some x is)
-flat_map-in f (y ∷ xs) line zero x is h = subst (Among line) (sym (flat_map-cons f y xs)) (among-left line (f y) (flat_map f xs) (subst (λ z. Among line (f z)) (sym (same_Some y x is)) h))
-flat_map-in f (y ∷ xs) line (suc k) x is h = subst (Among line) (sym (flat_map-cons f y xs)) (among-right line (f y) (flat_map f xs) (flat_map-in f xs line k x is h))
+flat_map-in f (y ∷ xs) line zero x is h =
+    subst (Among line) (sym (flat_map-cons f y xs)) (among-left line (f y) (flat_map f xs) (subst (λ z. Among line (f z)) (sym (same_Some y x is)) h))
+flat_map-in f (y ∷ xs) line (suc k) x is h =
+    subst (Among line) (sym (flat_map-cons f y xs)) (among-right line (f y) (flat_map f xs) (flat_map-in f xs line k x is h))
 
 -- ---- the least number
 
@@ -75,8 +78,10 @@ least-le None (x ∷ xs) m e =
     (λ g is. absurd (none-some g is), λ y h. elim h [ inl is ↦ omega (arith, low, is) | inr later ↦ rest.1 y later ])
 least-le (Some l) (x ∷ xs) m e =
     let rest = least-le (lower (Some l) x) xs m e in
-    let low = below-both (ltb x l) x l m refl (rest.0 (cond (ltb x l) x l) refl) in
-    (λ g is. (let same : l ≡ g = same_Some l g is in omega (arith, low.0, same)), λ y h. elim h [ inl is ↦ omega (arith, low.1, is) | inr later ↦ rest.1 y later ])
+    let low = below-both (ltb x l) x l m refl (rest.0 (cond (ltb x l) x l) refl) in (
+      λ g is. (let same : l ≡ g = same_Some l g is in omega (arith, low.0, same)),
+      λ y h. elim h [ inl is ↦ omega (arith, low.1, is) | inr later ↦ rest.1 y later ],
+    )
 
 -- ---- lines that differ
 
@@ -87,50 +92,67 @@ record DiffersIn (firsts : ℕ → Option Earliest) (place : ℕ) (list : List R
   pub is_line : p.line ≡ line
   pub fails : agrees (firsts (place + at)) p.sig ≡ false
 
-differing_from-at : (firsts : ℕ → Option Earliest) (place : ℕ) (list : List Request) (line : ℕ) → Among line (differing_from firsts place list) → DiffersIn firsts place list line
+differing_from-at : (firsts : ℕ → Option Earliest) (place : ℕ) (list : List Request) (line : ℕ)
+    → Among line (differing_from firsts place list) → DiffersIn firsts place list line
 differing_from-at firsts place [] line h = absurd h
 differing_from-at firsts place (p ∷ list) line h = turn (agrees (firsts place) p.sig) refl (differing_from-at firsts (place + 1) list line) h
   where
     later : DiffersIn firsts (place + 1) list line → DiffersIn firsts place (p ∷ list) line
     later found =
         let at : place + 1 + found.at ≡ place + suc found.at = omega arith in
-        record { at = suc found.at; p = found.p; is = found.is; is_line = found.is_line; fails = ap (λ k. agrees (firsts k) found.p.sig) (sym at) ∙ found.fails }
+        record {
+          at = suc found.at;
+          p = found.p;
+          is = found.is;
+          is_line = found.is_line;
+          fails =
+              ap (λ k. agrees (firsts k) found.p.sig) (sym at) ∙ found.fails;
+        }
 
     turn : (b : Bool) → agrees (firsts place) p.sig ≡ b → (Among line (differing_from firsts (place + 1) list) → DiffersIn firsts (place + 1) list line)
-        → Among line (cond b (differing_from firsts (place + 1) list) (p.line ∷ differing_from firsts (place + 1) list)) → DiffersIn firsts place (p ∷ list) line
+        → Among line (cond b (differing_from firsts (place + 1) list) (p.line ∷ differing_from firsts (place + 1) list))
+        → DiffersIn firsts place (p ∷ list) line
     turn true e rest h = later (rest h)
     turn false e rest h = elim h [
-      | inl is ↦ (let at : place ≡ place + 0 = omega arith in record { at = 0; p = p; is = refl; is_line = sym is; fails = ap (λ k. agrees (firsts k) p.sig) (sym at) ∙ e })
+      | inl is ↦ (let at : place ≡ place + 0 =
+          omega arith in record { at = 0; p = p; is = refl; is_line = sym is; fails = ap (λ k. agrees (firsts k) p.sig) (sym at) ∙ e })
       | inr others ↦ later (rest others)
     ]
 
-differing_from-in : (firsts : ℕ → Option Earliest) (place : ℕ) (list : List Request) (k : ℕ) (p : Request) → slice_get list k ≡ Some p → agrees (firsts (place + k)) p.sig ≡ false → Among p.line (differing_from firsts place list)
+differing_from-in : (firsts : ℕ → Option Earliest) (place : ℕ) (list : List Request) (k : ℕ) (p : Request)
+    → slice_get list k ≡ Some p → agrees (firsts (place + k)) p.sig ≡ false → Among p.line (differing_from firsts place list)
 differing_from-in firsts place [] k p is fails = absurd (none-some p is)
 differing_from-in firsts place (q ∷ list) zero p is fails =
     let same : q ≡ p = same_Some q p is in
     let at : place + 0 ≡ place = omega arith in
-    let here : agrees (firsts place) q.sig ≡ false = ap (λ (r : Request). agrees (firsts place) r.sig) same ∙ ap (λ k. agrees (firsts k) p.sig) (sym at) ∙ fails in
+    let here : agrees (firsts place) q.sig ≡ false =
+    ap (λ (r : Request). agrees (firsts place) r.sig) same ∙ ap (λ k. agrees (firsts k) p.sig) (sym at) ∙ fails in
     rw here (inl (ap (λ (r : Request). r.line) (sym same)))
 differing_from-in firsts place (q ∷ list) (suc k) p is fails =
     let at : place + suc k ≡ place + 1 + k = omega arith in
     turn (agrees (firsts place) q.sig) (differing_from-in firsts (place + 1) list k p is (ap (λ i. agrees (firsts i) p.sig) (sym at) ∙ fails))
   where
-    turn : (b : Bool) → Among p.line (differing_from firsts (place + 1) list) → Among p.line (cond b (differing_from firsts (place + 1) list) (q.line ∷ differing_from firsts (place + 1) list))
+    turn : (b : Bool) → Among p.line (differing_from firsts (place + 1) list)
+        → Among p.line (cond b (differing_from firsts (place + 1) list) (q.line ∷ differing_from firsts (place + 1) list))
     turn true h = h
     turn false h = inr h
 
 -- ---- the first line that differs
 
 -- a request that doesn't agree with the earliest is among those that differ
-pub among-all : (all : List (List (List Request))) (comm : ℕ) (lists : List (List Request)) (place : ℕ) (p : Request) → slice_get all comm ≡ Some lists → StandsAt lists place p → agrees (earliest None place lists) p.sig ≡ false
+pub among-all : (all : List (List (List Request))) (comm : ℕ) (lists : List (List Request)) (place : ℕ) (p : Request)
+    → slice_get all comm ≡ Some lists → StandsAt lists place p → agrees (earliest None place lists) p.sig ≡ false
     → Among p.line (flat_map differing all)
 among-all all comm lists place p is stands fails =
     let at : 0 + place ≡ place = omega arith in
-    let here = differing_from-in (λ k. earliest None k lists) 0 stands.list place p stands.is_there (ap (λ k. agrees (earliest None k lists) p.sig) at ∙ fails) in
-    flat_map-in differing all p.line comm lists is (flat_map-in (differing_from (λ k. earliest None k lists) 0) lists p.line stands.member stands.list stands.is_list here)
+    let here = differing_from-in (λ k. earliest None k lists) 0 stands.list place p stands.is_there
+    (ap (λ k. agrees (earliest None k lists) p.sig) at ∙ fails) in
+    flat_map-in differing all p.line comm lists is
+    (flat_map-in (differing_from (λ k. earliest None k lists) 0) lists p.line stands.member stands.list stands.is_list here)
 
 -- one that does not agree differs from the earliest there
-differs-from : (all : List (List (List Request))) (comm : ℕ) (lists : List (List Request)) (place : ℕ) (p : Request) → slice_get all comm ≡ Some lists → StandsAt lists place p → agrees (earliest None place lists) p.sig ≡ false
+differs-from : (all : List (List (List Request))) (comm : ℕ) (lists : List (List Request)) (place : ℕ) (p : Request)
+    → slice_get all comm ≡ Some lists → StandsAt lists place p → agrees (earliest None place lists) p.sig ≡ false
     → Differs all p
 differs-from all comm lists place p is stands fails =
     let some = earliest-some None place lists p stands in
@@ -146,8 +168,13 @@ differs-from all comm lists place p is stands fails =
             place = place;
             there = stands;
             first = first;
-            earliest = record { there = there.stands; least = λ q at. (let le = (earliest-le None place lists some.f some.is).1 q at in omega (arith, le, line)) };
-            differs = λ same. (let yes : agrees (earliest None place lists) p.sig ≡ true = ap (λ (o : Option Earliest). agrees o p.sig) some.is ∙ (same_signature-Decides some.f.sig p.sig).1 (sig ∙ sym same) in
+            earliest = record {
+              there = there.stands;
+              least =
+                  λ q at. (let le = (earliest-le None place lists some.f some.is).1 q at in omega (arith, le, line));
+            };
+            differs = λ same. (let yes : agrees (earliest None place lists) p.sig ≡ true =
+                ap (λ (o : Option Earliest). agrees o p.sig) some.is ∙ (same_signature-Decides some.f.sig p.sig).1 (sig ∙ sym same) in
                 let no : true ≡ false = sym yes ∙ fails in absurd cc);
           })
     ]
@@ -162,7 +189,8 @@ one-differs o p q ne = turn (agrees o p.sig) (agrees o q.sig) refl refl
     turn true true one other = absurd (ne (agrees-same o p.sig q.sig one other))
 
 -- a request that differs, or the earliest there, is among those that don't agree
-among-differs : (all : List (List (List Request))) (p : Request) → (d : Differs all p) → (Among p.line (flat_map differing all)) ⊎ (Among d.first.line (flat_map differing all))
+among-differs : (all : List (List (List Request))) (p : Request) → (d : Differs all p)
+    → (Among p.line (flat_map differing all)) ⊎ (Among d.first.line (flat_map differing all))
 among-differs all p d = elim (one-differs (earliest None d.place d.lists) p d.first d.differs) [
   | inl fails ↦ inl (among-all all d.comm d.lists d.place p d.is_comm d.there fails)
   | inr fails ↦ inr (among-all all d.comm d.lists d.place d.first d.is_comm d.earliest.there fails)

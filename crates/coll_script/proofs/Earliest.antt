@@ -1,5 +1,6 @@
 -- The earliest request at a place is one there, and none there is earlier.
-use Rattle.std.proofs.Common.{◌≡◌, ℕ, zero, suc, ◌<◌, ◌≤◌, Bool, true, false, cond, ltb, List, [], ◌∷◌, ◌⊎◌, Option, Some, None, refl, ap, sym, ◌∙◌, arith, inl, inr}
+use Rattle.std.proofs.Common.{◌≡◌, ℕ, zero, suc, ◌<◌, ◌≤◌, Bool, true, false, cond, ltb, List, [], ◌∷◌, ◌⊎◌, Option, Some, None, refl, ap, sym, ◌∙◌}
+use Rattle.std.proofs.Common.{arith, inl, inr}
 use Rattle.std.specs.Prelude.{slice_get}
 use Rattle.std.specs.Option.{option_map}
 use Rattle.std.proofs.lemmas.Bool.Decides.{nat_tests}
@@ -83,9 +84,15 @@ in-front list lists place f e =
 behind : (list : List Request) (lists : List (List Request)) (place : ℕ) (f : Earliest) → IsThere lists place f → IsThere (list ∷ lists) place f
 behind list lists place f there =
     let stands = there.stands in
-    record { p = there.p; stands = record { member = suc stands.member; list = stands.list; is_list = stands.is_list; is_there = stands.is_there }; is_first = there.is_first }
+    record {
+      p = there.p;
+      stands =
+          record { member = suc stands.member; list = stands.list; is_list = stands.is_list; is_there = stands.is_there };
+      is_first = there.is_first;
+    }
 
-pub earliest-is : (o : Option Earliest) (place : ℕ) (lists : List (List Request)) (f : Earliest) → earliest o place lists ≡ Some f → (o ≡ Some f) ⊎ IsThere lists place f
+pub earliest-is : (o : Option Earliest) (place : ℕ) (lists : List (List Request)) (f : Earliest)
+    → earliest o place lists ≡ Some f → (o ≡ Some f) ⊎ IsThere lists place f
 earliest-is o place [] f e = inl e
 earliest-is o place (list ∷ lists) f e = elim (earliest-is (earlier o (first_at list place)) place lists f e) [
   | inl is ↦ elim (earlier-is o (first_at list place) f is) [ inl one ↦ inl one | inr other ↦ inr (in-front list lists place f other) ]
@@ -93,7 +100,8 @@ earliest-is o place (list ∷ lists) f e = elim (earliest-is (earlier o (first_a
 ]
 
 -- what a request says of the list in which it stands
-stands-cases : (list : List Request) (lists : List (List Request)) (place : ℕ) (p : Request) → StandsAt (list ∷ lists) place p → (first_at list place ≡ Some (first_of p)) ⊎ StandsAt lists place p
+stands-cases : (list : List Request) (lists : List (List Request)) (place : ℕ) (p : Request) → StandsAt (list ∷ lists) place p
+    → (first_at list place ≡ Some (first_of p)) ⊎ StandsAt lists place p
 stands-cases list lists place p stands = by_member stands.member stands.is_list
   where
     by_member : (m : ℕ) → slice_get (list ∷ lists) m ≡ Some stands.list → (first_at list place ≡ Some (first_of p)) ⊎ StandsAt lists place p
@@ -103,7 +111,8 @@ stands-cases list lists place p stands = by_member stands.member stands.is_list
 nowhere : (place : ℕ) (p : Request) → StandsAt [] place p → ⊥
 nowhere place p stands = none-some stands.list stands.is_list
 
-pub earliest-le : (o : Option Earliest) (place : ℕ) (lists : List (List Request)) (f : Earliest) → earliest o place lists ≡ Some f → ((g : Earliest) → o ≡ Some g → f.line ≤ g.line) × ((p : Request) → StandsAt lists place p → f.line ≤ p.line)
+pub earliest-le : (o : Option Earliest) (place : ℕ) (lists : List (List Request)) (f : Earliest)
+    → earliest o place lists ≡ Some f → ((g : Earliest) → o ≡ Some g → f.line ≤ g.line) × ((p : Request) → StandsAt lists place p → f.line ≤ p.line)
 earliest-le None place [] f e = absurd (none-some f e)
 earliest-le (Some h) place [] f e = (λ g is. line-same h g f e is, λ p stands. absurd (nowhere place p stands))
 earliest-le o place (list ∷ lists) f e =
@@ -112,8 +121,10 @@ earliest-le o place (list ∷ lists) f e =
     (let it = earlier-some o (first_at list place) g h in
     let one = rest.0 it.f it.is in
     let other = earlier-le o (first_at list place) it.f g it.is h in
-    omega (arith, one, other)) in
-    (λ g is. reached g (inl is), λ p stands. elim (stands-cases list lists place p stands) [ inl here ↦ reached (first_of p) (inr here) | inr later ↦ rest.1 p later ])
+    omega (arith, one, other)) in (
+      λ g is. reached g (inl is),
+      λ p stands. elim (stands-cases list lists place p stands) [ inl here ↦ reached (first_of p) (inr here) | inr later ↦ rest.1 p later ],
+    )
 
 earliest-any : (o : Option Earliest) (place : ℕ) (lists : List (List Request)) (g : Earliest) → o ≡ Some g → IsSomething (earliest o place lists)
 earliest-any o place [] g is = record { f = g; is = is }
@@ -121,9 +132,11 @@ earliest-any o place (list ∷ lists) g is =
     let next = earlier-some o (first_at list place) g (inl is) in
     earliest-any (earlier o (first_at list place)) place lists next.f next.is
 
-pub earliest-some : (o : Option Earliest) (place : ℕ) (lists : List (List Request)) (p : Request) → StandsAt lists place p → IsSomething (earliest o place lists)
+pub earliest-some : (o : Option Earliest) (place : ℕ) (lists : List (List Request)) (p : Request) → StandsAt lists place p
+    → IsSomething (earliest o place lists)
 earliest-some o place [] p stands = absurd (nowhere place p stands)
 earliest-some o place (list ∷ lists) p stands = elim (stands-cases list lists place p stands) [
-  | inl here ↦ (let next = earlier-some o (first_at list place) (first_of p) (inr here) in earliest-any (earlier o (first_at list place)) place lists next.f next.is)
+  | inl here ↦ (let next = earlier-some o (first_at list place) (first_of p) (inr here) in earliest-any
+      (earlier o (first_at list place)) place lists next.f next.is)
   | inr later ↦ earliest-some (earlier o (first_at list place)) place lists p later
 ]

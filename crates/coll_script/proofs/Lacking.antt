@@ -1,5 +1,6 @@
 -- What it means that a place or a start is missing.
-use Rattle.std.proofs.Common.{◌≡◌, ◌≢◌, ℕ, suc, ◌<◌, ◌≤◌, Bool, true, false, cond, ◌&&◌, eqb, List, [], ◌∷◌, length, get_or, Option, Some, None, Ok, Err, refl, subst, sym, ◌∙◌, arith, inl, inr}
+use Rattle.std.proofs.Common.{◌≡◌, ◌≢◌, ℕ, suc, ◌<◌, ◌≤◌, Bool, true, false, cond, ◌&&◌, eqb, List, [], ◌∷◌, length, get_or, Option, Some, None, Ok}
+use Rattle.std.proofs.Common.{Err, refl, subst, sym, ◌∙◌, arith, inl, inr}
 use Rattle.std.specs.Prelude.{slice_get}
 use Rattle.std.specs.List.{list_all}
 use Rattle.std.proofs.lemmas.Bool.{cases_lt, eqb-true, eq-eqb}
@@ -36,10 +37,12 @@ some-list (first ∷ lists) m list is = refl
 
 -- ---- places
 
-length-member : (all : List (List (List Request))) (comm : ℕ) (lists : List (List Request)) (m : ℕ) (list : List Request) → list_all have_places all ≡ true → slice_get all comm ≡ Some lists → slice_get lists m ≡ Some list
+length-member : (all : List (List (List Request))) (comm : ℕ) (lists : List (List Request)) (m : ℕ) (list : List Request)
+    → list_all have_places all ≡ true → slice_get all comm ≡ Some lists → slice_get lists m ≡ Some list
     → length list ≡ length (first_list lists)
 length-member all comm lists m list e is at =
-    eqb-true (length list) (length (first_list lists)) (list_all-at (λ (l : List Request). eqb (length l) (length (first_list lists))) lists m list (list_all-at have_places all comm lists e is) at)
+    eqb-true (length list) (length (first_list lists))
+    (list_all-at (λ (l : List Request). eqb (length l) (length (first_list lists))) lists m list (list_all-at have_places all comm lists e is) at)
 
 no-place-lacks : (all : List (List (List Request))) → list_all have_places all ≡ true → LacksPlace all → ⊥
 no-place-lacks all e lacks =
@@ -57,7 +60,8 @@ place-lacks all e =
     let member = list_all-fails (λ (l : List Request). eqb (length l) (length (first_list lists))) lists comm.fails in
     let list = member.x in
     let first = some-list lists member.at list member.is in
-    let differ : length list ≡ length (first_list lists) → ⊥ = λ same. (let yes : eqb (length list) (length (first_list lists)) ≡ true = eq-eqb (length list) (length (first_list lists)) same in
+    let differ : length list ≡ length (first_list lists)
+    → ⊥ = λ same. (let yes : eqb (length list) (length (first_list lists)) ≡ true = eq-eqb (length list) (length (first_list lists)) same in
     let no : true ≡ false = sym yes ∙ member.fails in absurd cc) in
     elim (cases_lt (length list) (length (first_list lists))) [
       | inl lt ↦ record {
@@ -96,8 +100,11 @@ starts-differ [] list e = absurd cc
 starts-differ (p ∷ first) [] e = absurd cc
 starts-differ (p ∷ first) (q ∷ list) e = turn (eqb (length q.starts) (length p.starts)) refl (starts-differ first list) e
   where
-    turn : (b : Bool) → eqb (length q.starts) (length p.starts) ≡ b → (started_alike first list ≡ false → StartsDiffer first list) → (b && started_alike first list) ≡ false → StartsDiffer (p ∷ first) (q ∷ list)
-    turn true here rest e = (let found = rest e in record { at = suc found.at; p = found.p; q = found.q; is_first = found.is_first; is_other = found.is_other; differs = found.differs })
+    turn : (b : Bool) → eqb (length q.starts) (length p.starts) ≡ b
+        → (started_alike first list ≡ false → StartsDiffer first list) → (b && started_alike first list) ≡ false → StartsDiffer (p ∷ first) (q ∷ list)
+    turn true here rest e =
+        (let found =
+        rest e in record { at = suc found.at; p = found.p; q = found.q; is_first = found.is_first; is_other = found.is_other; differs = found.differs })
     turn false here rest e = record {
       at = 0;
       p = p;
@@ -116,7 +123,16 @@ start-lacks all e =
     record {
       one = first_list comm.x;
       other = member.x;
-      members = record { comm = comm.at; lists = comm.x; is_comm = comm.is; member = 0; is_one = some-list comm.x member.at member.x member.is; peer = member.at; is_other = member.is };
+      members = record {
+        comm = comm.at;
+        lists = comm.x;
+        is_comm = comm.is;
+        member = 0;
+        is_one =
+            some-list comm.x member.at member.x member.is;
+        peer = member.at;
+        is_other = member.is;
+      };
       place = it.at;
       p = it.p;
       q = it.q;
@@ -133,39 +149,48 @@ no-start-lacks all places starts lacks =
     λ m list is. list_all-at (started_alike first) them.lists m list (list_all-at have_starts all them.comm them.lists starts them.is_comm) is in
     let below = slice_get_within lacks.one lacks.place lacks.p lacks.is_one in
     let long = length-member all them.comm them.lists them.member lacks.one places them.is_comm them.is_one in
-    let there : slice_get first lacks.place ≡ Some (get_or first lacks.place lacks.p) = slice_get-get_or first lacks.place lacks.p (omega (arith, below, long)) in
+    let there : slice_get first lacks.place ≡ Some (get_or first lacks.place lacks.p) =
+    slice_get-get_or first lacks.place lacks.p (omega (arith, below, long)) in
     let one = starts-same first lacks.one lacks.place (get_or first lacks.place lacks.p) lacks.p (alike them.member lacks.one them.is_one) there lacks.is_one in
-    let other = starts-same first lacks.other lacks.place (get_or first lacks.place lacks.p) lacks.q (alike them.peer lacks.other them.is_other) there lacks.is_other in
+    let other = starts-same first lacks.other lacks.place (get_or first lacks.place lacks.p) lacks.q
+    (alike them.peer lacks.other them.is_other) there lacks.is_other in
     lacks.differs (one ∙ sym other)
 
 -- ---- what is judged after the last line
 
-says-same : (all : List (List (List Request))) (last line : ℕ) (cause : Cause) (fault : Fault) → SaysOf all last line cause → fault_at {A = History} line cause ≡ Err fault → SaysOf all last fault.line fault.cause
+says-same : (all : List (List (List Request))) (last line : ℕ) (cause : Cause) (fault : Fault) → SaysOf all last line cause
+    → fault_at {A = History} line cause ≡ Err fault → SaysOf all last fault.line fault.cause
 says-same all last line cause fault says e =
     let f : Fault = record { line = line; cause = cause } in
     let same : f ≡ fault = cc in
     subst (λ (g : Fault). SaysOf all last g.line g.cause) same says
 
-lacking : (last : ℕ) (all : List (List (List Request))) (h : History) (places starts : Bool) (fault : Fault) → list_all have_places all ≡ places → list_all have_starts all ≡ starts → mismatch all ≡ None
+lacking : (last : ℕ) (all : List (List (List Request))) (h : History) (places starts : Bool) (fault : Fault)
+    → list_all have_places all ≡ places → list_all have_starts all ≡ starts → mismatch all ≡ None
     → cond places (cond starts (Ok h) (fault_at last StartMissing)) (fault_at last PlaceMissing) ≡ Err fault → SaysOf all last fault.line fault.cause
 lacking last all h true true fault has begun none e = absurd cc
-lacking last all h true false fault has begun none e = says-same all last last StartMissing fault (refl, none-differs all none, no-place-lacks all has, start-lacks all begun) e
+lacking last all h true false fault has begun none e =
+    says-same all last last StartMissing fault (refl, none-differs all none, no-place-lacks all has, start-lacks all begun) e
 lacking last all h false starts fault has begun none e = says-same all last last PlaceMissing fault (refl, none-differs all none, place-lacks all has) e
 
-says-of : (last : ℕ) (all : List (List (List Request))) (h : History) (found : Option ℕ) (fault : Fault) → mismatch all ≡ found → matched last all h found ≡ Err fault → SaysOf all last fault.line fault.cause
+says-of : (last : ℕ) (all : List (List (List Request))) (h : History) (found : Option ℕ) (fault : Fault) → mismatch all ≡ found
+    → matched last all h found ≡ Err fault → SaysOf all last fault.line fault.cause
 says-of last all h (Some line) fault is e = says-same all last line PlaceMismatch fault (first-differs all line is) e
 says-of last all h None fault is e = lacking last all h (list_all have_places all) (list_all have_starts all) fault refl refl is e
 
 pub fault-says : (last : ℕ) (h : History) (fault : Fault) → belonging last h ≡ Err fault → SaysOf (all_postings (job_of h)) last fault.line fault.cause
 fault-says last h fault e = says-of last (all_postings (job_of h)) h (mismatch (all_postings (job_of h))) fault refl e
 
-whole : (last : ℕ) (all : List (List (List Request))) (h made : History) (places starts : Bool) → list_all have_places all ≡ places → list_all have_starts all ≡ starts → mismatch all ≡ None
+whole : (last : ℕ) (all : List (List (List Request))) (h made : History) (places starts : Bool)
+    → list_all have_places all ≡ places → list_all have_starts all ≡ starts → mismatch all ≡ None
     → cond places (cond starts (Ok h) (fault_at last StartMissing)) (fault_at last PlaceMissing) ≡ Ok made → Belong all
-whole last all h made true true has begun none e = record { alike = none-differs all none; whole = no-place-lacks all has; started = no-start-lacks all has begun }
+whole last all h made true true has begun none e =
+    record { alike = none-differs all none; whole = no-place-lacks all has; started = no-start-lacks all has begun }
 whole last all h made true false has begun none e = absurd cc
 whole last all h made false starts has begun none e = absurd cc
 
-belong-of : (last : ℕ) (all : List (List (List Request))) (h made : History) (found : Option ℕ) → mismatch all ≡ found → matched last all h found ≡ Ok made → Belong all
+belong-of : (last : ℕ) (all : List (List (List Request))) (h made : History) (found : Option ℕ) → mismatch all ≡ found
+    → matched last all h found ≡ Ok made → Belong all
 belong-of last all h made (Some line) is e = absurd cc
 belong-of last all h made None is e = whole last all h made (list_all have_places all) (list_all have_starts all) refl refl is e
 

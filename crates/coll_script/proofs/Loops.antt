@@ -1,5 +1,6 @@
 -- What loops over a list keep, element by element.
-use Rattle.std.proofs.Common.{◌≡◌, ℕ, zero, suc, ◌+◌, ◌-◌, ◌<◌, ◌≤◌, Bool, true, false, ◌&&◌, List, [], ◌∷◌, ◌++◌, map, take, drop, length, get_or, refl, ap, sym, ◌∙◌, append_assoc, add-one, arith}
+use Rattle.std.proofs.Common.{◌≡◌, ℕ, zero, suc, ◌+◌, ◌-◌, ◌<◌, ◌≤◌, Bool, true, false, ◌&&◌, List, [], ◌∷◌, ◌++◌, map, take, drop, length, get_or}
+use Rattle.std.proofs.Common.{refl, ap, sym, ◌∙◌, append_assoc, add-one, arith}
 use Rattle.std.specs.Prelude.{flat_map}
 use Rattle.std.specs.List.{list_all, range_with_len, enumerate_from}
 use Rattle.std.proofs.Math.Seq.{drop-cons}
@@ -24,10 +25,12 @@ at-view v xs k x lt is = (rw length-map lt, ap v is ∙ sym (get_or-map v xs k x
 
 -- ---- a list that grows by what f makes of the next element
 
-pub map-more : {X Y : Type 0} (f : X → Y) (xs : List X) (k : ℕ) (x : X) (out total : List Y) (y : Y) → drop k xs ≡ x ∷ drop (k + 1) xs → y ≡ f x → out ++ map f (drop k xs) ≡ total
+pub map-more : {X Y : Type 0} (f : X → Y) (xs : List X) (k : ℕ) (x : X) (out total : List Y) (y : Y)
+    → drop k xs ≡ x ∷ drop (k + 1) xs → y ≡ f x → out ++ map f (drop k xs) ≡ total
     → (out ++ y ∷ []) ++ map f (drop (k + 1) xs) ≡ total
 map-more {X} {Y} f xs k x out total y front made so_far =
-    append_assoc out (y ∷ []) (map f (drop (k + 1) xs)) ∙ ap (λ (z : Y). out ++ z ∷ map f (drop (k + 1) xs)) made ∙ ap (λ (rest : List X). out ++ map f rest) (sym front) ∙ so_far
+    append_assoc out (y ∷ []) (map f (drop (k + 1) xs)) ∙ ap (λ (z : Y). out ++ z ∷ map f (drop (k + 1) xs)) made
+    ∙ ap (λ (rest : List X). out ++ map f rest) (sym front) ∙ so_far
 
 -- the same over the numbers below an end
 pub map_range-more : {Y : Type 0} (f : ℕ → Y) (end k : ℕ) (out total : List Y) (y : Y) → k < end → y ≡ f k → out ++ map f (range_with_len k (end - k)) ≡ total
@@ -39,11 +42,13 @@ map_range-more {Y} f end k out total y lt made so_far =
 
 -- ---- whether all pass
 
-pub list_all-more : {X : Type 0} (p : X → Bool) (xs : List X) (k : ℕ) (x : X) (total : Bool) → k < length xs → x ≡ get_or xs k x → p x ≡ true → list_all p (drop k xs) ≡ total → list_all p (drop (k + 1) xs) ≡ total
+pub list_all-more : {X : Type 0} (p : X → Bool) (xs : List X) (k : ℕ) (x : X) (total : Bool) → k < length xs → x ≡ get_or xs k x
+    → p x ≡ true → list_all p (drop k xs) ≡ total → list_all p (drop (k + 1) xs) ≡ total
 list_all-more {X} p xs k x total lt is passes so_far =
     sym (ap (λ (b : Bool). b && list_all p (drop (k + 1) xs)) passes) ∙ ap (list_all p) (sym (drop-more xs k x lt is)) ∙ so_far
 
-pub list_all-stops : {X : Type 0} (p : X → Bool) (xs : List X) (k : ℕ) (x : X) (total : Bool) → k < length xs → x ≡ get_or xs k x → p x ≡ false → list_all p (drop k xs) ≡ total → false ≡ total
+pub list_all-stops : {X : Type 0} (p : X → Bool) (xs : List X) (k : ℕ) (x : X) (total : Bool) → k < length xs → x ≡ get_or xs k x
+    → p x ≡ false → list_all p (drop k xs) ≡ total → false ≡ total
 list_all-stops {X} p xs k x total lt is fails so_far =
     sym (ap (λ (b : Bool). b && list_all p (drop (k + 1) xs)) fails) ∙ ap (list_all p) (sym (drop-more xs k x lt is)) ∙ so_far
 
@@ -67,7 +72,8 @@ flat_map_range-done f n i out total le so_far =
 
 -- ---- text that grows by what is printed of the next element
 
-pub text-more : {X : Type 0} (f : ℕ × X → List ℕ) (xs : List X) (i : ℕ) (x : X) (out total : List ℕ) → drop i xs ≡ x ∷ drop (i + 1) xs → out ++ flat_map f (enumerate_from i (drop i xs)) ≡ total
+pub text-more : {X : Type 0} (f : ℕ × X → List ℕ) (xs : List X) (i : ℕ) (x : X) (out total : List ℕ)
+    → drop i xs ≡ x ∷ drop (i + 1) xs → out ++ flat_map f (enumerate_from i (drop i xs)) ≡ total
     → (out ++ f (i, x)) ++ flat_map f (enumerate_from (i + 1) (drop (i + 1) xs)) ≡ total
 text-more {X} f xs i x out total front so_far =
     let others = flat_map f (enumerate_from (i + 1) (drop (i + 1) xs)) in

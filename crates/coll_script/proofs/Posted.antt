@@ -22,15 +22,18 @@ pub map-push : {X Y : Type 0} (f : X → Y) (xs : List X) (x : X) (y : Y) → f 
 map-push f [] x y e = ap (λ (z : _). z ∷ []) e
 map-push f (w ∷ xs) x y e = ap (λ (l : List _). f w ∷ l) (map-push f xs x y e)
 
-pub postings_from-more : (requests : List (List Request)) (comm : ℕ) (groups : List (List ℕ)) (group : List ℕ) (out total : List (List (List Request))) (lists : List (List Request)) → drop comm groups ≡ group ∷ drop (comm + 1) groups
-    → lists ≡ postings requests comm group → out ++ postings_from requests comm (drop comm groups) ≡ total → (out ++ lists ∷ []) ++ postings_from requests (comm + 1) (drop (comm + 1) groups) ≡ total
+pub postings_from-more : (requests : List (List Request)) (comm : ℕ) (groups : List (List ℕ)) (group : List ℕ)
+    (out total : List (List (List Request))) (lists : List (List Request)) → drop comm groups ≡ group ∷ drop (comm + 1) groups
+    → lists ≡ postings requests comm group → out ++ postings_from requests comm (drop comm groups) ≡ total
+    → (out ++ lists ∷ []) ++ postings_from requests (comm + 1) (drop (comm + 1) groups) ≡ total
 postings_from-more requests comm groups group out total lists front made so_far =
     append_assoc out (lists ∷ []) (postings_from requests (comm + 1) (drop (comm + 1) groups))
     ∙ ap (λ (ls : List (List Request)). out ++ ls ∷ postings_from requests (comm + 1) (drop (comm + 1) groups)) made
     ∙ ap (λ (gs : List (List ℕ)). out ++ postings_from requests comm gs) (sym front) ∙ so_far
 
 -- the requests on a communicator so far, after one more request
-pub posted-kept : (comm : ℕ) (xs : List Request) (k : ℕ) (p : Request) (out new total : List Request) → drop k xs ≡ p ∷ drop (k + 1) xs → is_on comm p ≡ true → new ≡ out ++ p ∷ []
+pub posted-kept : (comm : ℕ) (xs : List Request) (k : ℕ) (p : Request) (out new total : List Request)
+    → drop k xs ≡ p ∷ drop (k + 1) xs → is_on comm p ≡ true → new ≡ out ++ p ∷ []
     → out ++ posted_on comm (drop k xs) ≡ total → new ++ posted_on comm (drop (k + 1) xs) ≡ total
 posted-kept comm xs k p out new total front on made so_far =
     let others = posted_on comm (drop (k + 1) xs) in

@@ -1,5 +1,6 @@
 -- What is printed from the values of a job is its lines.
-use Rattle.std.proofs.Common.{◌≡◌, ℕ, zero, suc, ◌+◌, ◌<◌, ◌≤◌, Bool, true, false, cond, not, eqb, List, [], ◌∷◌, ◌++◌, map, take, drop, length, get_or, Option, Some, refl, ap, subst, sym, ◌∙◌, append_assoc, arith}
+use Rattle.std.proofs.Common.{◌≡◌, ℕ, zero, suc, ◌+◌, ◌<◌, ◌≤◌, Bool, true, false, cond, not, eqb, List, [], ◌∷◌, ◌++◌, map, take, drop, length}
+use Rattle.std.proofs.Common.{get_or, Option, Some, refl, ap, subst, sym, ◌∙◌, append_assoc, arith}
 use Rattle.std.specs.Prelude.{slice_get, slice_index, unwrap_or, flat_map, IfSome}
 use Rattle.std.specs.List.{range_with_len, enumerate_from, position_or_len, AllByRecursion}
 use Rattle.std.specs.Option.{option_map}
@@ -31,10 +32,12 @@ pub row_of-range : (n i : ℕ) (f : ℕ → List ℕ) → i < n → row_of (map 
 row_of-range n i f lt = unwrap_or-slice_get (map f (range_with_len 0 n)) i [] ∙ get_or-map-range_with_len f 0 n i i [] lt (omega arith)
 
 lines-range : (line : ℕ → List ℕ → List ℕ) (f : ℕ → List (List ℕ)) (member : ℕ) (n k : ℕ)
-    → flat_map (λ e. line e.0 (row_of e.1 member)) (enumerate_from k (map f (range_with_len k n))) ≡ flat_map (λ s. line s (row_of (f s) member)) (range_with_len k n)
+    → flat_map (λ e. line e.0 (row_of e.1 member)) (enumerate_from k (map f (range_with_len k n)))
+    ≡ flat_map (λ s. line s (row_of (f s) member)) (range_with_len k n)
 lines-range line f member zero k = refl
 lines-range line f member (suc n) k =
-    flat_map-cons (λ e. line e.0 (row_of e.1 member)) (k, f k) (enumerate_from (k + 1) (map f (range_with_len (k + 1) n))) ∙ ap (λ rest. line k (row_of (f k) member) ++ rest) (lines-range line f member n (k + 1))
+    flat_map-cons (λ e. line e.0 (row_of e.1 member)) (k, f k) (enumerate_from (k + 1) (map f (range_with_len (k + 1) n)))
+    ∙ ap (λ rest. line k (row_of (f k) member) ++ rest) (lines-range line f member n (k + 1))
     ∙ sym (flat_map-cons (λ s. line s (row_of (f s) member)) k (range_with_len (k + 1) n))
 
 pub printed_request-values : (rank number : ℕ) (lists : List (List Request)) (place : ℕ) (p : Request) → p.member < length lists
@@ -47,7 +50,8 @@ printed_request-values rank number lists place p lt =
 -- ---- the request of a rank at its place
 
 -- the k-th of the requests before stands in front
-posted-front : (comm : ℕ) (xs : List Request) (q : ℕ) (p : Request) → slice_get xs q ≡ Some p → p.comm ≡ comm → slice_get (posted_on comm xs) (length (posted_on comm (take q xs))) ≡ Some p
+posted-front : (comm : ℕ) (xs : List Request) (q : ℕ) (p : Request) → slice_get xs q ≡ Some p → p.comm ≡ comm
+    → slice_get (posted_on comm xs) (length (posted_on comm (take q xs))) ≡ Some p
 posted-front comm [] q p e on = absurd cc
 posted-front comm (x ∷ xs) zero p e on =
     let same : x ≡ p = same_Some x p e in
@@ -55,7 +59,9 @@ posted-front comm (x ∷ xs) zero p e on =
     rw test (ap Some same)
 posted-front comm (x ∷ xs) (suc q) p e on = later (is_on comm x) (posted-front comm xs q p e on)
   where
-    later : (b : Bool) → slice_get (posted_on comm xs) (length (posted_on comm (take q xs))) ≡ Some p → slice_get (cond b (x ∷ posted_on comm xs) (posted_on comm xs)) (length (cond b (x ∷ posted_on comm (take q xs)) (posted_on comm (take q xs)))) ≡ Some p
+    later : (b : Bool) → slice_get (posted_on comm xs) (length (posted_on comm (take q xs))) ≡ Some p
+        → slice_get (cond b (x ∷ posted_on comm xs) (posted_on comm xs)) (length (cond b (x ∷ posted_on comm (take q xs)) (posted_on comm (take q xs))))
+        ≡ Some p
     later true h = h
     later false h = h
 
@@ -74,17 +80,22 @@ position-at rank group m e =
 
 -- ---- the values at a place
 
-pub postings_from-get : (requests : List (List Request)) (comm : ℕ) (groups : List (List ℕ)) (k : ℕ) → slice_get (postings_from requests comm groups) k ≡ option_map (postings requests (comm + k)) (slice_get groups k)
+pub postings_from-get : (requests : List (List Request)) (comm : ℕ) (groups : List (List ℕ)) (k : ℕ)
+    → slice_get (postings_from requests comm groups) k ≡ option_map (postings requests (comm + k)) (slice_get groups k)
 postings_from-get requests comm [] k = refl
 postings_from-get requests comm (group ∷ groups) zero = let at : comm ≡ comm + 0 = omega arith in ap (λ c. Some (postings requests c group)) at
-postings_from-get requests comm (group ∷ groups) (suc k) = let at : comm + 1 + k ≡ comm + suc k = omega arith in postings_from-get requests (comm + 1) groups k ∙ ap (λ c. option_map (postings requests c) (slice_get groups k)) at
+postings_from-get requests comm (group ∷ groups) (suc k) = let at : comm + 1 + k ≡ comm + suc k =
+    omega arith in postings_from-get requests (comm + 1) groups k ∙ ap (λ c. option_map (postings requests c) (slice_get groups k)) at
 
-values_from-get : (lists : List (List Request)) (place : ℕ) (requests : List Request) (k : ℕ) → slice_get (values_from lists place requests) k ≡ option_map (place_values lists (place + k)) (slice_get requests k)
+values_from-get : (lists : List (List Request)) (place : ℕ) (requests : List Request) (k : ℕ)
+    → slice_get (values_from lists place requests) k ≡ option_map (place_values lists (place + k)) (slice_get requests k)
 values_from-get lists place [] k = refl
 values_from-get lists place (p ∷ requests) zero = let at : place ≡ place + 0 = omega arith in ap (λ i. Some (place_values lists i p)) at
-values_from-get lists place (p ∷ requests) (suc k) = let at : place + 1 + k ≡ place + suc k = omega arith in values_from-get lists (place + 1) requests k ∙ ap (λ i. option_map (place_values lists i) (slice_get requests k)) at
+values_from-get lists place (p ∷ requests) (suc k) = let at : place + 1 + k ≡ place + suc k =
+    omega arith in values_from-get lists (place + 1) requests k ∙ ap (λ i. option_map (place_values lists i) (slice_get requests k)) at
 
-place_values-same : (lists : List (List Request)) (place : ℕ) (p q : Request) → p.sig ≡ q.sig → length p.starts ≡ length q.starts → place_values lists place p ≡ place_values lists place q
+place_values-same : (lists : List (List Request)) (place : ℕ) (p q : Request) → p.sig ≡ q.sig → length p.starts ≡ length q.starts
+    → place_values lists place p ≡ place_values lists place q
 place_values-same lists place p q sig starts =
     ap (λ (s : Signature). map (λ start. map (value s (given_at lists place start)) (range_with_len 0 (length lists))) (range_with_len 0 (length p.starts))) sig
     ∙ ap (λ n. map (start_values lists place q) (range_with_len 0 n)) starts
@@ -110,29 +121,37 @@ IsValued-at job is rank number p e =
     let place = length (posted_on comm (take number mine)) in
     let own = AllByRecursion-at (IsOwned job.groups rank) mine number p (is.owned rank) e in
     let group : List ℕ = unwrap_or (slice_get job.groups comm) [] in
-    let there : slice_get job.groups comm ≡ Some group = slice_get-get_or job.groups comm [] own.known ∙ ap Some (sym (unwrap_or-slice_get job.groups comm [])) in
+    let there : slice_get job.groups comm ≡ Some group =
+    slice_get-get_or job.groups comm [] own.known ∙ ap Some (sym (unwrap_or-slice_get job.groups comm [])) in
     let at = position-at rank group p.member (subst (λ (o : Option (List ℕ)). IfSome o (λ g. member_of rank g ≡ Some p.member)) there own.member) in
     let lists = lists_of job comm in
     let len : length lists ≡ length group = length-map group _ in
     let below : p.member < length lists = omega (arith, at.0, len) in
     let found : slice_get (postings_from job.requests 0 job.groups) comm ≡ Some lists =
-    postings_from-get job.requests 0 job.groups comm ∙ ap (option_map (postings job.requests (0 + comm))) there ∙ ap (λ c. Some (postings job.requests c group)) (let zero_at : 0 + comm ≡ comm = omega arith in zero_at) in
-    let matched : AreMatched (length lists) lists = AllByRecursion-at (λ (l : List (List Request)). AreMatched (length l) l) (postings_from job.requests 0 job.groups) comm lists is.matched found in
-    let list : list_at lists p.member ≡ posted_on comm mine = list_at-postings job.requests comm group p.member at.0 ∙ ap (λ r. posted_on comm (requests_of job.requests r)) at.1 in
+    postings_from-get job.requests 0 job.groups comm ∙ ap (option_map (postings job.requests (0 + comm))) there
+    ∙ ap (λ c. Some (postings job.requests c group)) (let zero_at : 0 + comm ≡ comm = omega arith in zero_at) in
+    let matched : AreMatched (length lists) lists =
+    AllByRecursion-at (λ (l : List (List Request)). AreMatched (length l) l) (postings_from job.requests 0 job.groups) comm lists is.matched found in
+    let list : list_at lists p.member ≡ posted_on comm mine =
+    list_at-postings job.requests comm group p.member at.0 ∙ ap (λ r. posted_on comm (requests_of job.requests r)) at.1 in
     let here : slice_get (list_at lists p.member) place ≡ Some p = ap (λ (l : List Request). slice_get l place) list ∙ posted-front comm mine number p e refl in
-    let within : place < length (first_list lists) = (let lt = slice_get_within (list_at lists p.member) place p here in let same = matched.same_length p.member below in omega (arith, lt, same)) in
+    let within : place < length (first_list lists) =
+    (let lt = slice_get_within (list_at lists p.member) place p here in let same = matched.same_length p.member below in omega (arith, lt, same)) in
     let first : Request = get_or (first_list lists) place p in
     let one : slice_get (first_list lists) place ≡ Some first = slice_get-get_or (first_list lists) place p within in
     let accord = matched.accord p.member place first below one in
     let same : accord.0 ≡ p = same_Some accord.0 p (sym accord.1 ∙ here) in
     let sig : first.sig ≡ p.sig = sym accord.2.sig ∙ ap (λ (q : Request). q.sig) same in
     let starts : length first.starts ≡ length p.starts = sym accord.2.starts ∙ ap (λ (q : Request). length q.starts) same in
-    let group_at : slice_get (values_of job) comm ≡ Some (group_values lists) = slice_get-map group_values (postings_from job.requests 0 job.groups) comm ∙ ap (option_map group_values) found in
+    let group_at : slice_get (values_of job) comm ≡ Some (group_values lists) =
+    slice_get-map group_values (postings_from job.requests 0 job.groups) comm ∙ ap (option_map group_values) found in
     let place_at : slice_get (group_values lists) place ≡ Some (place_values lists place p) =
     values_from-get lists 0 (first_list lists) place ∙ ap (option_map (place_values lists (0 + place))) one
-    ∙ ap (λ i. Some (place_values lists i first)) (let zero_at : 0 + place ≡ place = omega arith in zero_at) ∙ ap Some (place_values-same lists place first p sig starts) in
+    ∙ ap (λ i. Some (place_values lists i first)) (let zero_at : 0 + place ≡ place = omega arith in zero_at)
+    ∙ ap Some (place_values-same lists place first p sig starts) in
     let looked_up : values_at (values_of job) comm place ≡ place_values lists place p =
-    ap (λ (o : Option (List (List (List (List ℕ))))). unwrap_or (slice_get (unwrap_or o []) place) []) group_at ∙ ap (λ (o : Option (List (List (List ℕ)))). unwrap_or o []) place_at in
+    ap (λ (o : Option (List (List (List (List ℕ))))). unwrap_or (slice_get (unwrap_or o []) place) []) group_at
+    ∙ ap (λ (o : Option (List (List (List ℕ)))). unwrap_or o []) place_at in
     let lt_place = slice_get_within (group_values lists) place (place_values lists place p) place_at in
     let count : length (place_values lists place p) ≡ length p.starts = length-map-range_with_len (start_values lists place p) 0 (length p.starts) in
     let few = own.few in
@@ -144,7 +163,8 @@ IsValued-at job is rank number p e =
         known = slice_get_within (values_of job) comm (group_values lists) group_at;
         below = subst (λ (o : Option (List (List (List (List ℕ))))). place < length (unwrap_or o [])) (sym group_at) lt_place;
         members = subst (AllByRecursion (λ (rows : List (List ℕ)). p.member < length rows)) (sym looked_up)
-            (rows-long (start_values lists place p) p.member (length p.starts) 0 (λ s. subst (λ n. p.member < n) (sym (length-map-range_with_len (value p.sig (given_at lists place s)) 0 (length lists))) below));
+            (rows-long (start_values lists place p) p.member (length p.starts) 0
+            (λ s. subst (λ n. p.member < n) (sym (length-map-range_with_len (value p.sig (given_at lists place s)) 0 (length lists))) below));
         few = subst (λ (v : List (List (List ℕ))). length v ≤ 4294967295) (sym looked_up) few_values;
       };
     }
@@ -158,11 +178,15 @@ printed-lines job is rank before (p ∷ requests) e =
     let mine = requests_of job.requests rank in
     let here : slice_get mine (length before) ≡ Some p = ap (λ (l : List Request). slice_get l (length before)) (sym e) ∙ slice_get-middle before p requests in
     let front : take (length before) mine ≡ before = ap (take (length before)) (sym e) ∙ take_at before (p ∷ requests) (length before) refl in
-    let valued : IsValued job (values_of job) p (length (posted_on p.comm before)) = subst (λ (l : List Request). IsValued job (values_of job) p (length (posted_on p.comm l))) front (IsValued-at job is rank (length before) p here) in
-    let one : printed_request rank (length before) p (values_at (values_of job) p.comm (length (posted_on p.comm before))) ≡ request_lines rank (length before) (lists_of job p.comm) (length (posted_on p.comm before)) p =
-    ap (printed_request rank (length before) p) valued.looked_up ∙ printed_request-values rank (length before) (lists_of job p.comm) (length (posted_on p.comm before)) p valued.member in
+    let valued : IsValued job (values_of job) p (length (posted_on p.comm before)) =
+    subst (λ (l : List Request). IsValued job (values_of job) p (length (posted_on p.comm l))) front (IsValued-at job is rank (length before) p here) in
+    let one : printed_request rank (length before) p (values_at (values_of job) p.comm (length (posted_on p.comm before)))
+    ≡ request_lines rank (length before) (lists_of job p.comm) (length (posted_on p.comm before)) p =
+    ap (printed_request rank (length before) p) valued.looked_up
+    ∙ printed_request-values rank (length before) (lists_of job p.comm) (length (posted_on p.comm before)) p valued.member in
     ap (λ text. text ++ printed_behind (values_of job) rank (before ++ p ∷ []) requests) one
-    ∙ ap (λ rest. request_lines rank (length before) (lists_of job p.comm) (length (posted_on p.comm before)) p ++ rest) (printed-lines job is rank (before ++ p ∷ []) requests (append_assoc before (p ∷ []) requests ∙ e))
+    ∙ ap (λ rest. request_lines rank (length before) (lists_of job p.comm) (length (posted_on p.comm before)) p ++ rest)
+    (printed-lines job is rank (before ++ p ∷ []) requests (append_assoc before (p ∷ []) requests ∙ e))
   where
     slice_get-middle : {X : Type 0} (xs : List X) (x : X) (ys : List X) → slice_get (xs ++ x ∷ ys) (length xs) ≡ Some x
     slice_get-middle [] x ys = refl
@@ -176,15 +200,18 @@ HaveValues-rank job is rank number p e = (IsValued-at job is rank number p e).ha
 
 -- ---- the next request
 
-pub printed-more : (values : List (List (List (List (List ℕ))))) (rank number : ℕ) (requests : List Request) (p : Request) (out total : List ℕ) → number < length requests → drop number requests ≡ p ∷ drop (number + 1) requests
+pub printed-more : (values : List (List (List (List (List ℕ))))) (rank number : ℕ) (requests : List Request) (p : Request) (out total : List ℕ)
+    → number < length requests → drop number requests ≡ p ∷ drop (number + 1) requests
     → out ++ printed_behind values rank (take number requests) (drop number requests) ≡ total
-    → (out ++ printed_request rank number p (values_at values p.comm (length (posted_on p.comm (take number requests))))) ++ printed_behind values rank (take (number + 1) requests) (drop (number + 1) requests) ≡ total
+    → (out ++ printed_request rank number p (values_at values p.comm (length (posted_on p.comm (take number requests)))))
+    ++ printed_behind values rank (take (number + 1) requests) (drop (number + 1) requests) ≡ total
 printed-more values rank number requests p out total lt front so_far =
     let len : length (take number requests) ≡ number = (let short = length-take number requests in omega (arith, short, lt)) in
     let here = printed_request rank number p (values_at values p.comm (length (posted_on p.comm (take number requests)))) in
     append_assoc out here (printed_behind values rank (take (number + 1) requests) (drop (number + 1) requests))
     ∙ ap (λ (before : List Request). out ++ (here ++ printed_behind values rank before (drop (number + 1) requests))) (take-next requests number p front)
-    ∙ ap (λ n. out ++ (printed_request rank n p (values_at values p.comm (length (posted_on p.comm (take number requests)))) ++ printed_behind values rank (take number requests ++ p ∷ []) (drop (number + 1) requests))) (sym len)
+    ∙ ap (λ n. out ++ (printed_request rank n p (values_at values p.comm (length (posted_on p.comm (take number requests))))
+    ++ printed_behind values rank (take number requests ++ p ∷ []) (drop (number + 1) requests))) (sym len)
     ∙ ap (λ (rest : List Request). out ++ printed_behind values rank (take number requests) rest) (sym front) ∙ so_far
 
 -- ---- the values of a job, one list for each communicator

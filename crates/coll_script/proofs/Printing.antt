@@ -28,7 +28,8 @@ width-le ty len i rest lt split =
     omega arith
 
 -- the row from the next element on
-pub rest-more : (ty : Datatype) (len i : ℕ) (row : List ℕ) → width ty ≤ length row → length row + i * width ty ≡ len → length (drop (width ty) row) + (i + 1) * width ty ≡ len
+pub rest-more : (ty : Datatype) (len i : ℕ) (row : List ℕ) → width ty ≤ length row → length row + i * width ty ≡ len
+    → length (drop (width ty) row) + (i + 1) * width ty ≡ len
 rest-more ty len i row le split = let dropped = length-drop (width ty) row in omega arith
 
 -- text that grows by that of the next element
@@ -46,7 +47,8 @@ elements-more text ty end i rest out total lt so_far =
 pub spaced-more : (ty : Datatype) (end i : ℕ) (rest out total : List ℕ) → i < end → out ++ flat_map element_text (elements ty (end - i) rest) ≡ total
     → ((out ++ 32 ∷ []) ++ text_of (element_at ty rest)) ++ flat_map element_text (elements ty (end - (i + 1)) (drop (width ty) rest)) ≡ total
 spaced-more ty end i rest out total lt so_far =
-    ap (λ (xs : List ℕ). xs ++ flat_map element_text (elements ty (end - (i + 1)) (drop (width ty) rest))) (append_assoc out (32 ∷ []) (text_of (element_at ty rest)))
+    ap (λ (xs : List ℕ). xs ++ flat_map element_text (elements ty (end - (i + 1)) (drop (width ty) rest)))
+    (append_assoc out (32 ∷ []) (text_of (element_at ty rest)))
     ∙ elements-more element_text ty end i rest out total lt so_far
 
 -- ---- exits

@@ -16,10 +16,12 @@ pub script_of-long : (text : List ℕ) → 1048576 < length text → script_of t
 unfolding script_of
 script_of-long text long = let test : ltb 1048576 (length text) ≡ true = grind (arith, nat_tests) in rw test refl
 
-pub script_of-judged : (text : List ℕ) (read : Result History Fault) → length text ≤ 1048576 → judged 1 beginning (lines_of text) ≡ read → script_of text ≡ and_then read (completed (length (lines_of text)))
+pub script_of-judged : (text : List ℕ) (read : Result History Fault) → length text ≤ 1048576
+    → judged 1 beginning (lines_of text) ≡ read → script_of text ≡ and_then read (completed (length (lines_of text)))
 unfolding script_of
 script_of-judged text read short e = let test : ltb 1048576 (length text) ≡ false = grind (arith, nat_tests) in rw (test, e) refl
 
-pub FailsText-script_of : (fault : ScriptFault) (text : List ℕ) → length text ≤ 1048576 → FailsText fault (judged 1 beginning (lines_of text)) → FailsText fault (script_of text)
+pub FailsText-script_of : (fault : ScriptFault) (text : List ℕ) → length text ≤ 1048576
+    → FailsText fault (judged 1 beginning (lines_of text)) → FailsText fault (script_of text)
 FailsText-script_of script.NoMemory text short fails = tt
 FailsText-script_of (script.Text fault) text short fails = script_of-judged text (Err fault) short fails

@@ -4,7 +4,8 @@ use Rattle.std.specs.Prelude.{unwrap_or}
 use Rattle.std.specs.List.{range_with_len}
 use Rattle.coll_kinds.specs.declared.datatype.Datatype.{Datatype}
 use Rattle.coll_kinds.specs.declared.kind.Kind.{Kind}
-use Rattle.coll_kinds.specs.declared.kind.Kind.TheVariants.{Barrier, Bcast, Gather, Scatter, Allgather, Allgatherv, Alltoall, Reduce, Allreduce, Rsblock, Scan, Exscan}
+use Rattle.coll_kinds.specs.declared.kind.Kind.TheVariants.{Barrier, Bcast, Gather, Scatter, Allgather, Allgatherv, Alltoall, Reduce, Allreduce}
+use Rattle.coll_kinds.specs.declared.kind.Kind.TheVariants.{Rsblock, Scan, Exscan}
 use Rattle.coll_kinds.specs.declared.operation.Op.{Op}
 use Rattle.coll_kinds.specs.declared.operation.Op.TheVariants.{Sum}
 use Rattle.coll_kinds.specs.declared.signature.Signature.{Signature}
@@ -12,7 +13,8 @@ use Rattle.coll_kinds.specs.Lengths.{block_len}
 use Rattle.coll_ops.specs.Values.{value_by, value}
 use Rattle.coll_script.specs.Outcomes.{is_shared}
 
-shared-value_by : (kind : Kind) (op : Op) (ty : Datatype) (b root : ℕ) (given : List (List ℕ)) (r : ℕ) → is_shared kind ≡ true → value_by kind op ty b root given r ≡ value_by kind op ty b root given 0
+shared-value_by : (kind : Kind) (op : Op) (ty : Datatype) (b root : ℕ) (given : List (List ℕ)) (r : ℕ) → is_shared kind ≡ true
+    → value_by kind op ty b root given r ≡ value_by kind op ty b root given 0
 shared-value_by Barrier op ty b root given r is = refl
 shared-value_by Bcast op ty b root given r is = refl
 shared-value_by Gather op ty b root given r is = absurd cc
@@ -31,4 +33,5 @@ module _ (sig : Signature) (given : List (List ℕ)) (row : List ℕ) (shared : 
   shared-values first zero = refl
   shared-values first (suc n) =
       let here : row ≡ value sig given first = is ∙ sym (shared-value_by sig.kind (unwrap_or sig.op Sum) sig.ty (block_len sig) sig.root given first shared) in
-      ap (λ (x : List ℕ). x ∷ map (λ member. row) (range_with_len (first + 1) n)) here ∙ ap (λ (xs : List (List ℕ)). value sig given first ∷ xs) (shared-values (first + 1) n)
+      ap (λ (x : List ℕ). x ∷ map (λ member. row) (range_with_len (first + 1) n)) here
+      ∙ ap (λ (xs : List (List ℕ)). value sig given first ∷ xs) (shared-values (first + 1) n)

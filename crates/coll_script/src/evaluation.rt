@@ -50,7 +50,8 @@ fn start_values(
     requires checked { broken sig (length lists.now) ≡ None }
     requires starts { HaveStart (lists_view lists.now) place start }
     requires given { AreGiven sig (length lists.now) (given_at (lists_view lists.now) place start) }
-    ensures ok { IfOk result (λ values. members_view values ≡ map (value sig (given_at (lists_view lists.now) place start)) (range_with_len 0 (length lists.now))) }
+    ensures ok { IfOk result
+        (λ values. members_view values ≡ map (value sig (given_at (lists_view lists.now) place start)) (range_with_len 0 (length lists.now))) }
     ensures refusal { IsOkUnless result Refusal.NoMemory }
 {
     let given = given_at(alloc, lists, place, start)?;

@@ -1,7 +1,8 @@
 //! Judges after the last line whether the requests at each place belong together.
 
 ghost use Rattle.std.specs.Prelude.{◌≡◌, ◌≤◌, ℕ, length, flat_map, slice_get, None, IfOk, OnOk, if◌then◌else◌};
-ghost use Rattle.coll_script.specs.Matching.{first_at, earlier, earliest, agrees, differing_from, lower, least, mismatch, have_places, started_alike, have_starts};
+ghost use Rattle.coll_script.specs.Matching.{first_at, earlier, earliest, agrees, differing_from, lower, least, mismatch, have_places, started_alike};
+ghost use Rattle.coll_script.specs.Matching.{have_starts};
 ghost use Rattle.std.specs.List.{list_all};
 ghost use Rattle.coll_script.specs.Keeping.{IsKept};
 ghost use Rattle.coll_script.specs.PostingViews.{list_view, lists_view, all_lists_view};

@@ -91,7 +91,8 @@ pub fn plain_job<R: Read, W: Write>(
 ) -> Result<(), JobFault>
     requires unread { reader.old.reads ≡ 0 }
     // What was written is the meaning of what was read, and nothing else.
-    ensures ok { OnOk result (IfSome (R.remaining reader.old.reader.now) (λ input. WritesMeaning input (W.contents writer.old.stream.now) (W.contents writer.new.stream.now))) }
+    ensures ok { OnOk result
+        (IfSome (R.remaining reader.old.reader.now) (λ input. WritesMeaning input (W.contents writer.old.stream.now) (W.contents writer.new.stream.now))) }
     // The fault of a text is the one that the definition of a text's meaning gives.
     ensures faults { IfErr result (IsPlainFault (R.remaining reader.old.reader.now)) }
     // The result is a read fault only if the reader failed, and a write fault only if the writer did.
@@ -128,5 +129,5 @@ fn answer(alloc: Global, text: &[u8]) -> Result<Vec<u8>, JobFault>
     ensures faults { IfErr result (IsAnswerFault text.now) }
 {
     let script = Script::read(alloc, text)?;
-    Ok(script.plain_lines(alloc)?)
+    Ok(script.plain_lines()?)
 }

@@ -22,6 +22,7 @@ use std::marker::Model;
 /// The history of a text without a fault, in which the requests of all ranks belong together.
 #[derive(Debug, Drop)]
 pub struct Script {
+    alloc: Global,
     history: History,
 }
 
@@ -66,10 +67,10 @@ impl Script {
 
     /// The commands of a rank, in the order of their lines, and after them the unwritten `waitall` of all its requests; even a
     /// rank without a line has it. Linear in all commands, and in the bytes that those of the rank give.
-    pub fn commands_of(&self, alloc: Global, rank: u8) -> Result<Vec<Command>, AllocError>
+    pub fn commands_of(&self, rank: u8) -> Result<Vec<Command>, AllocError>
         ensures { IfOk result (λ commands. commands.items ≡ commands_of self.now rank) }
     {
-        self.history.commands_of(alloc, rank)
+        self.history.commands_of(self.alloc, rank)
     }
 
     /// The size of an engine for the job. Linear in the commands.
@@ -82,10 +83,11 @@ impl Script {
     /// The output lines of the job, in rising rank, request and start: the value of each start, computed directly from what all
     /// members give. The only refusal is [`Refusal::NoMemory`]. The cost is linear in the output and in the bytes that the
     /// members give, and for each communicator in the requests of its members.
-    pub fn plain_lines(&self, alloc: Global) -> Result<Vec<u8>, Refusal>
+    pub fn plain_lines(&self) -> Result<Vec<u8>, Refusal>
         ensures ok { IfOk result (λ out. out.items ≡ job_lines (job_of self.now)) }
         ensures refusal { IsOkUnless result Refusal.NoMemory }
     {
+        let alloc = self.alloc;
         let ranks = self.history.requests(alloc)?;
         let all = all_postings(alloc, &ranks, self.history.groups())?;
         let values = all_values(alloc, &all)?;
@@ -120,7 +122,7 @@ fn completed(alloc: Global, text: &[u8], history: History) -> Result<Script, Scr
         return Err(fault_of_all(text, Cause::MissingRanks));
     }
     check(alloc, text, &history)?;
-    Ok(Script { history })
+    Ok(Script { alloc, history })
 }
 
 /// Checks that the requests at each place belong together.

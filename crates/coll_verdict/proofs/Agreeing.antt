@@ -37,7 +37,8 @@ pub record Agrees (up : ℕ → ℕ → Type 0) (g : Setting) (s : State) (rank 
   pub posted : (comm member : ℕ) → member_of rank (group g comm) ≡ Some member → length (s.posts comm member) ≡ k.posted comm
 
 -- the request in the slot is the one that is live
-pub live_as : (up : ℕ → ℕ → Type 0) (s : State) (rank : ℕ) (k : Sketch) (q : ℕ) (t : Ticket) (request other : Request) → IsLive up s rank k q t request → s.request t.slot ≡ Some other → IsLive up s rank k q t other
+pub live_as : (up : ℕ → ℕ → Type 0) (s : State) (rank : ℕ) (k : Sketch) (q : ℕ) (t : Ticket) (request other : Request)
+    → IsLive up s rank k q t request → s.request t.slot ≡ Some other → IsLive up s rank k q t other
 live_as up s rank k q t request other l e = subst (IsLive up s rank k q t) (same_Some request other (sym l.is ∙ e)) l
 
 -- ---- one slot changes
@@ -48,7 +49,8 @@ pub record Moves (s u : State) (slot : ℕ) : Type 0 where
   pub request : (i : ℕ) → (i ≡ slot → ⊥) → u.request i ≡ s.request i
   pub posts : (comm member place : ℕ) (sig : Signature) → slice_get (s.posts comm member) place ≡ Some sig → slice_get (u.posts comm member) place ≡ Some sig
 
-pub live_elsewhere : (up : ℕ → ℕ → Type 0) (s u : State) (slot rank : ℕ) (k : Sketch) (q : ℕ) (t : Ticket) (request : Request) → Moves s u slot → (t.slot ≡ slot → ⊥) → IsLive up s rank k q t request → IsLive up u rank k q t request
+pub live_elsewhere : (up : ℕ → ℕ → Type 0) (s u : State) (slot rank : ℕ) (k : Sketch) (q : ℕ) (t : Ticket) (request : Request)
+    → Moves s u slot → (t.slot ≡ slot → ⊥) → IsLive up s rank k q t request → IsLive up u rank k q t request
 live_elsewhere up s u slot rank k q t request m off l = record {
   current = m.generation t.slot off ∙ l.current;
   is = m.request t.slot off ∙ l.is;
@@ -65,7 +67,8 @@ live_elsewhere up s u slot rank k q t request m off l = record {
   begun = l.begun;
 }
 
-pub live_sketched : (up : ℕ → ℕ → Type 0) (s : State) (rank : ℕ) (j k : Sketch) (q : ℕ) (t : Ticket) (request : Request) → SameAt j k q → IsLive up s rank j q t request → IsLive up s rank k q t request
+pub live_sketched : (up : ℕ → ℕ → Type 0) (s : State) (rank : ℕ) (j k : Sketch) (q : ℕ) (t : Ticket) (request : Request)
+    → SameAt j k q → IsLive up s rank j q t request → IsLive up s rank k q t request
 live_sketched up s rank j k q t request e l = record {
   current = l.current;
   is = l.is;
@@ -119,7 +122,9 @@ pub record Makes (g : Setting) (s u : State) (rank comm member : ℕ) (t : Ticke
   pub longer : length (u.posts comm member) ≡ suc (length (s.posts comm member))
   pub others : (c m : ℕ) → ((c ≡ comm) × (m ≡ member) → ⊥) → u.posts c m ≡ s.posts c m
 
-module _ (up : ℕ → ℕ → Type 0) (g : Setting) (s u : State) (rank comm member : ℕ) (t : Ticket) (sig : Signature) (starts : ℕ) (active : Bool) (h : Holding) (k : Sketch) (m : Makes g s u rank comm member t sig starts active) (fits : (q : ℕ) → up q starts → active ≡ true) (a : Agrees up g s rank h k) where
+module _ (up : ℕ → ℕ → Type 0) (g : Setting) (s u : State) (rank comm member : ℕ) (t : Ticket) (sig : Signature) (starts : ℕ)
+    (active : Bool) (h : Holding) (k : Sketch) (m : Makes g s u rank comm member t sig starts active)
+    (fits : (q : ℕ) → up q starts → active ≡ true) (a : Agrees up g s rank h k) where
   abbrev after : Sketch
   after = making k comm sig starts
 
@@ -151,8 +156,11 @@ module _ (up : ℕ → ℕ → Type 0) (g : Setting) (s u : State) (rank comm me
 
   old_live : (q : ℕ) (v : Ticket) → (q ≡ h.made → ⊥) → h.of q ≡ Some v → (request : Request) × IsLive up u rank after q v request
   old_live q v d e =
-      let l = a.live q v e in
-      (l.0, live_sketched up u rank k after q v l.0 (same_made k comm sig starts q (λ z. d (z ∙ sym a.made))) (live_elsewhere up s u t.slot rank k q v l.0 m.moves (off_spare v l.0 l.1.is) l.1))
+      let l = a.live q v e in (
+        l.0,
+        live_sketched up u rank k after q v l.0 (same_made k comm sig starts q (λ z. d (z ∙ sym a.made)))
+            (live_elsewhere up s u t.slot rank k q v l.0 m.moves (off_spare v l.0 l.1.is) l.1),
+      )
 
   makes_idle : (q : ℕ) → holding.of q ≡ None → up q (after.starts q) → ⊥
   makes_idle q e x = go (put_cases h.of h.made (Some t) q)
@@ -164,7 +172,8 @@ module _ (up : ℕ → ℕ → Type 0) (g : Setting) (s u : State) (rank comm me
   makes_live : (q : ℕ) (v : Ticket) → holding.of q ≡ Some v → (request : Request) × IsLive up u rank after q v request
   makes_live q v e = go (put_cases h.of h.made (Some t) q)
     where
-      go : ((q ≡ h.made) × (put h.of h.made (Some t) q ≡ Some t)) ⊎ ((q ≡ h.made → ⊥) × (put h.of h.made (Some t) q ≡ h.of q)) → (request : Request) × IsLive up u rank after q v request
+      go : ((q ≡ h.made) × (put h.of h.made (Some t) q ≡ Some t)) ⊎ ((q ≡ h.made → ⊥) × (put h.of h.made (Some t) q ≡ h.of q))
+          → (request : Request) × IsLive up u rank after q v request
       go (inl x) = (m.request, subst (λ (v : Ticket). IsLive up u rank after q v m.request) (same_Some t v (sym x.1 ∙ e)) (new_live q (x.0 ∙ a.made)))
       go (inr x) = old_live q v x.0 (sym x.1 ∙ e)
 
@@ -188,7 +197,8 @@ module _ (up : ℕ → ℕ → Type 0) (g : Setting) (s u : State) (rank comm me
       same_member : c ≡ comm → i ≡ member
       same_member e = same_Some i member (sym is ∙ (ap (λ (c : ℕ). member_of rank (group g c)) e ∙ m.is_member))
 
-      go : ((c ≡ comm) × (put k.posted comm (suc (k.posted comm)) c ≡ suc (k.posted comm))) ⊎ ((c ≡ comm → ⊥) × (put k.posted comm (suc (k.posted comm)) c ≡ k.posted c)) → length (u.posts c i) ≡ after.posted c
+      go : ((c ≡ comm) × (put k.posted comm (suc (k.posted comm)) c ≡ suc (k.posted comm)))
+          ⊎ ((c ≡ comm → ⊥) × (put k.posted comm (suc (k.posted comm)) c ≡ k.posted c)) → length (u.posts c i) ≡ after.posted c
       go (inl x) =
           let here : length (u.posts c i) ≡ length (u.posts comm member) = λ z. length (u.posts (x.0 z) (same_member x.0 z)) in
           here ∙ (m.longer ∙ (ap suc (a.posted comm member m.is_member) ∙ sym x.1))
@@ -212,7 +222,8 @@ pub record Touches (up : ℕ → ℕ → Type 0) (g : Setting) (s u : State) (ra
   pub idle : i.of q ≡ None → up q (k.starts q) → ⊥
   pub own : (v : Ticket) → i.of q ≡ Some v → (v ≡ t) × ((request : Request) × IsLive up u rank k q t request)
 
-module _ (up : ℕ → ℕ → Type 0) (g : Setting) (s u : State) (rank : ℕ) (h i : Holding) (j k : Sketch) (q : ℕ) (t : Ticket) (c : Touches up g s u rank h i j k q t) (a : Agrees up g s rank h j) where
+module _ (up : ℕ → ℕ → Type 0) (g : Setting) (s u : State) (rank : ℕ) (h i : Holding) (j k : Sketch) (q : ℕ) (t : Ticket)
+    (c : Touches up g s u rank h i j k q t) (a : Agrees up g s rank h j) where
   touches_idle : (p : ℕ) → i.of p ≡ None → up p (k.starts p) → ⊥
   touches_idle p e x = go (cases_eq p q)
     where
@@ -229,8 +240,11 @@ module _ (up : ℕ → ℕ → Type 0) (g : Setting) (s u : State) (rank : ℕ) 
           (o.1.0, subst (λ (p : ℕ). IsLive up u rank k p v o.1.0) (sym x) (subst (λ (v : Ticket). IsLive up u rank k q v o.1.0) (sym o.0) o.1.1))
       go (inr d) =
           let held : h.of p ≡ Some v = sym (c.others p d) ∙ e in
-          let l = a.live p v held in
-          (l.0, live_sketched up u rank j k p v l.0 (c.same p d) (live_elsewhere up s u t.slot rank j p v l.0 c.moves (λ z. d (a.apart p q v t held c.held z)) l.1))
+          let l = a.live p v held in (
+            l.0,
+            live_sketched up u rank j k p v l.0 (c.same p d)
+                (live_elsewhere up s u t.slot rank j p v l.0 c.moves (λ z. d (a.apart p q v t held c.held z)) l.1),
+          )
 
   touches_apart : (p r : ℕ) (v w : Ticket) → i.of p ≡ Some v → i.of r ≡ Some w → v.slot ≡ w.slot → p ≡ r
   touches_apart p r v w e f z = go (cases_eq p q) (cases_eq r q)
@@ -255,7 +269,8 @@ module _ (up : ℕ → ℕ → Type 0) (g : Setting) (s u : State) (rank : ℕ) 
 
 -- ---- requests that a call has named
 
-pub agrees_named : (up : ℕ → ℕ → Type 0) (g : Setting) (s : State) (rank : ℕ) (h : Holding) (k : Sketch) (qs : List ℕ) → Agrees up g s rank h k → Agrees up g s rank h (naming k qs)
+pub agrees_named : (up : ℕ → ℕ → Type 0) (g : Setting) (s : State) (rank : ℕ) (h : Holding) (k : Sketch) (qs : List ℕ)
+    → Agrees up g s rank h k → Agrees up g s rank h (naming k qs)
 agrees_named up g s rank h k qs a = record {
   made = a.made;
   idle = a.idle;
@@ -271,7 +286,8 @@ either_true true b e = inl refl
 either_true false b e = inr e
 
 pub agrees_rests : (up : ℕ → ℕ → Type 0) (g : Setting) (s : State) (rank : ℕ) (h : Holding) (k : Sketch) (qs : List ℕ)
-    → ((q : ℕ) (t : Ticket) (request : Request) → is_among q qs ≡ true → h.of q ≡ Some t → s.generation t.slot ≡ t.generation → s.request t.slot ≡ Some request → request.active ≡ false)
+    → ((q : ℕ) (t : Ticket) (request : Request) → is_among q qs ≡ true → h.of q ≡ Some t → s.generation t.slot ≡ t.generation
+    → s.request t.slot ≡ Some request → request.active ≡ false)
     → Agrees up g s rank h k → Agrees up g s rank h (resting k qs)
 agrees_rests up g s rank h k qs inactive a = record {
   made = a.made;

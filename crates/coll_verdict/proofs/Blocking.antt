@@ -1,5 +1,6 @@
 -- No run goes beyond closed stands.
-use Rattle.std.proofs.Common.{◌≡◌, ℕ, suc, ◌<◌, ◌≤◌, ◌⊎◌, inl, inr, Bool, true, false, ◌&&◌, List, [], ◌∷◌, length, Option, Some, None, refl, sym, ap, subst, ◌∙◌, arith, eq-eqb}
+use Rattle.std.proofs.Common.{◌≡◌, ℕ, suc, ◌<◌, ◌≤◌, ◌⊎◌, inl, inr, Bool, true, false, ◌&&◌, List, [], ◌∷◌, length, Option, Some, None, refl, sym, ap}
+use Rattle.std.proofs.Common.{subst, ◌∙◌, arith, eq-eqb}
 use Rattle.std.proofs.lemmas.Bool.{cases_eq, false≢true}
 use Rattle.std.proofs.lemmas.Option.{none-some, same_Some}
 use Rattle.std.specs.Prelude.{slice_get}
@@ -14,7 +15,8 @@ use Rattle.coll_machine.specs.Machines as machine
 use Rattle.coll_machine.proofs.Held.{runs_are_posted, done_is_held}
 use Rattle.coll_parser.specs.declared.command.Command.{Command}
 use Rattle.coll_parser.specs.declared.command.Command.TheVariants.{Wait, WaitAny, WaitSome, WaitAll}
-use Rattle.coll_verdict.specs.Standings.{Holding, Standing, beginning, carried_out, nothing_made, active_in, is_active, is_done, is_pending, NoneActive, NonePending, SomeDone, Completes, Carries, Steps, Reaches, AtEnd, Each}
+use Rattle.coll_verdict.specs.Standings.{Holding, Standing, beginning, carried_out, nothing_made, active_in, is_active, is_done, is_pending}
+use Rattle.coll_verdict.specs.Standings.{NoneActive, NonePending, SomeDone, Completes, Carries, Steps, Reaches, AtEnd, Each}
 use Rattle.coll_verdict.specs.Standings as standings
 use Rattle.coll_verdict.specs.Sketches.{Sketch, sketched, sketched_if, sketch_at}
 use Rattle.coll_verdict.specs.Stands.{Lacks, CantBeDone, IsBlocked, sketches, AreClosed, IsShort}
@@ -40,7 +42,8 @@ right_true false b e = absurd (false≢true e)
 wait_is : (g : Setting) (rank : ℕ) (m : Machine) (h : Holding) (q : ℕ) (n : Machine) (i : Holding) → Carries g rank m h (Wait q) n i → NonePending m h (q ∷ [])
 wait_is g rank m h q _ _ (standings.wait {n} {i} _ ready completion over) = ready
 
-wait_all_is : (g : Setting) (rank : ℕ) (m : Machine) (h : Holding) (qs : List ℕ) (n : Machine) (i : Holding) → Carries g rank m h (WaitAll qs) n i → NonePending m h qs
+wait_all_is : (g : Setting) (rank : ℕ) (m : Machine) (h : Holding) (qs : List ℕ) (n : Machine) (i : Holding)
+    → Carries g rank m h (WaitAll qs) n i → NonePending m h qs
 wait_all_is g rank m h qs _ _ (standings.wait_all {n} {i} _ ready completion over) = ready
 
 -- one of these was Done
@@ -54,16 +57,19 @@ one_done m h qs d = (d.0, d.1, go (h.of d.0) refl)
     go None e = absurd (false≢true (ap (is_done m) (sym e) ∙ d.2))
     go (Some t) e = (t, e, right_true (is_active m (Some t)) (m.done t.slot) (ap (is_done m) (sym e) ∙ d.2))
 
-wait_some_is : (g : Setting) (rank : ℕ) (m : Machine) (h : Holding) (qs : List ℕ) (n : Machine) (i : Holding) → Carries g rank m h (WaitSome qs) n i → NoneActive m h qs ⊎ OneDone m h qs
+wait_some_is : (g : Setting) (rank : ℕ) (m : Machine) (h : Holding) (qs : List ℕ) (n : Machine) (i : Holding)
+    → Carries g rank m h (WaitSome qs) n i → NoneActive m h qs ⊎ OneDone m h qs
 wait_some_is g rank m h qs _ _ (standings.wait_some {n} {i} _ ready completion over) = go ready
   where
     go : NoneActive m h qs ⊎ SomeDone m h qs → NoneActive m h qs ⊎ OneDone m h qs
     go (inl a) = inl a
     go (inr d) = inr (one_done m h qs d)
 
-wait_any_is : (g : Setting) (rank : ℕ) (m : Machine) (h : Holding) (qs : List ℕ) (n : Machine) (i : Holding) → Carries g rank m h (WaitAny qs) n i → NoneActive m h qs ⊎ OneDone m h qs
+wait_any_is : (g : Setting) (rank : ℕ) (m : Machine) (h : Holding) (qs : List ℕ) (n : Machine) (i : Holding)
+    → Carries g rank m h (WaitAny qs) n i → NoneActive m h qs ⊎ OneDone m h qs
 wait_any_is g rank m h qs _ _ (standings.wait_for_none _ idle) = inl idle
-wait_any_is g rank m h qs _ _ (standings.wait_any {n} _ q comm place begin bytes t among held step) = inr (q, among, (t, held, (retire_is g rank rank comm place begin bytes t m n step).1))
+wait_any_is g rank m h qs _ _ (standings.wait_any {n} _ q comm place begin bytes t among held step) =
+    inr (q, among, (t, held, (retire_is g rank rank comm place begin bytes t m n step).1))
 
 -- ---- requests that can't be Done before the stands
 
@@ -74,7 +80,8 @@ IsUp hears g last rank q n = Lacks hears g last rank q × (n ≡ (last rank).sta
 never_up : (hears : Hearing) (g : Setting) (last : ℕ → Sketch) (rank q : ℕ) → IsUp hears g last rank q 0 → ⊥
 never_up hears g last rank q u = let h : 0 < 0 = u.2 in absurd (omega arith)
 
-module _ (hears : Hearing) (g : Setting) (k last : ℕ → Sketch) (grows : (r : ℕ) → Grows (k r) (last r)) (m : Machine) (h : ℕ → Holding) (tr : Tracks (IsUp hears g last) g m h k) (heard : AreHeard hears g m k) (rank : ℕ) where
+module _ (hears : Hearing) (g : Setting) (k last : ℕ → Sketch) (grows : (r : ℕ) → Grows (k r) (last r)) (m : Machine)
+    (h : ℕ → Holding) (tr : Tracks (IsUp hears g last) g m h k) (heard : AreHeard hears g m k) (rank : ℕ) where
   not_heard : (q : ℕ) (t : Ticket) (request : Request) → Lacks hears g last rank q → (k rank).starts q ≡ (last rank).starts q
       → IsLive (IsUp hears g last rank) m.state rank (k rank) q t request → (d : HeardAt hears g m.state k t.slot) → d.request ≡ request → ⊥
   not_heard q t request lacks same l d is = gave_it (d.heard lacks.other (subst (λ (c : ℕ). lacks.other < size g c) (sym own_comm) lacks.low) awaited)
@@ -89,17 +96,20 @@ module _ (hears : Hearing) (g : Setting) (k last : ℕ → Sketch) (grows : (r :
       place_is = l.place_is ∙ sym ((grows rank).place q l.low)
 
       sig_is : d.sig ≡ lacks.sig
-      sig_is = same_Some d.sig lacks.sig (sym d.sig_is ∙ (ap (signature_of m.state) is ∙ (l.sig_is ∙ (sym l.sketched ∙ (sym ((grows rank).sig q l.low) ∙ lacks.sig_is)))))
+      sig_is = same_Some d.sig lacks.sig
+          (sym d.sig_is ∙ (ap (signature_of m.state) is ∙ (l.sig_is ∙ (sym l.sketched ∙ (sym ((grows rank).sig q l.low) ∙ lacks.sig_is)))))
 
       member_is : d.request.member ≡ lacks.member
       member_is =
           let p = (runs_are_posted g tr.events m tr.run).posted t.slot request l.is in
-          let seat : member_of request.rank (group g request.comm) ≡ member_of rank (group g ((last rank).comm q)) = λ z. member_of (l.rank_is z) (group g (comm_is z)) in
+          let seat : member_of request.rank (group g request.comm) ≡ member_of rank (group g ((last rank).comm q)) =
+          λ z. member_of (l.rank_is z) (group g (comm_is z)) in
           ap (λ (r : Request). r.member) is ∙ same_Some request.member lacks.member (sym p.member_is ∙ (seat ∙ lacks.member_is))
 
       awaited : hears d.sig (size g d.request.comm) d.request.member lacks.other ≡ true
       awaited =
-          let so : hears d.sig (size g d.request.comm) d.request.member lacks.other ≡ hears lacks.sig (size g ((last rank).comm q)) lacks.member lacks.other = λ z. hears (sig_is z) (size g (own_comm z)) (member_is z) lacks.other in
+          let so : hears d.sig (size g d.request.comm) d.request.member lacks.other ≡ hears lacks.sig (size g ((last rank).comm q)) lacks.member lacks.other =
+          λ z. hears (sig_is z) (size g (own_comm z)) (member_is z) lacks.other in
           so ∙ lacks.awaited
 
       gave_it : Gave g k (key_of d.request d.start) lacks.other → ⊥
@@ -110,7 +120,8 @@ module _ (hears : Hearing) (g : Setting) (k last : ℕ → Sketch) (grows : (r :
           (lt_le v.q (k v.rank).made (last v.rank).made v.low (grows v.rank).made)
           ((grows v.rank).comm v.q v.low ∙ (v.comm_is ∙ own_comm))
           ((grows v.rank).place v.q v.low ∙ (v.place_is ∙ (ap (λ (r : Request). r.place) is ∙ place_is))) in
-          late_never d.start d.request.starts ((last rank).starts q) ((k v.rank).starts v.q) ((last v.rank).starts v.q) d.start_is (ap (λ (r : Request). r.starts) is ∙ (l.starts_is ∙ same)) v.begun ((grows v.rank).starts v.q v.low) late
+          late_never d.start d.request.starts ((last rank).starts q) ((k v.rank).starts v.q) ((last v.rank).starts v.q)
+          d.start_is (ap (λ (r : Request). r.starts) is ∙ (l.starts_is ∙ same)) v.begun ((grows v.rank).starts v.q v.low) late
 
   not_done : (q : ℕ) (t : Ticket) → Lacks hears g last rank q → (k rank).starts q ≡ (last rank).starts q → (h rank).of q ≡ Some t → m.done t.slot ≡ true → ⊥
   not_done q t lacks same held done =
@@ -135,12 +146,15 @@ module _ (hears : Hearing) (g : Setting) (k last : ℕ → Sketch) (grows : (r :
       let is : d.request ≡ l.0 = same_Some d.request l.0 (sym d.is ∙ l.1.is) in
       false≢true (sym (l.1.rested rested) ∙ (ap (λ (r : Request). r.active) (sym is) ∙ d.ready.active))
 
-pub never_done : (hears : Hearing) (g : Setting) (k last : ℕ → Sketch) → ((r : ℕ) → Grows (k r) (last r)) → (m : Machine) → AreHeard hears g m k → NeverDone (IsUp hears g last) g m k
-never_done hears g k last grows from heard m f h tr rank q t held done up = not_done hears g k last grows m h tr (followed_heard hears g from m k heard f) rank q t up.0 up.1 held done
+pub never_done : (hears : Hearing) (g : Setting) (k last : ℕ → Sketch) → ((r : ℕ) → Grows (k r) (last r)) → (m : Machine)
+    → AreHeard hears g m k → NeverDone (IsUp hears g last) g m k
+never_done hears g k last grows from heard m f h tr rank q t held done up =
+    not_done hears g k last grows m h tr (followed_heard hears g from m k heard f) rank q t up.0 up.1 held done
 
 -- ---- a rank at its stand
 
-module _ (hears : Hearing) (g : Setting) (m : Machine) (h : ℕ → Holding) (k last : ℕ → Sketch) (rank : ℕ) (tr : Tracks (IsUp hears g last) g m h k) (heard : AreHeard hears g m k) (grows : (r : ℕ) → Grows (k r) (last r)) (there : k rank ≡ last rank) where
+module _ (hears : Hearing) (g : Setting) (m : Machine) (h : ℕ → Holding) (k last : ℕ → Sketch) (rank : ℕ)
+    (tr : Tracks (IsUp hears g last) g m h k) (heard : AreHeard hears g m k) (grows : (r : ℕ) → Grows (k r) (last r)) (there : k rank ≡ last rank) where
   same_starts : (q : ℕ) → (k rank).starts q ≡ (last rank).starts q
   same_starts q = ap (λ (j : Sketch). j.starts q) there
 
@@ -161,10 +175,12 @@ module _ (hears : Hearing) (g : Setting) (m : Machine) (h : ℕ → Holding) (k 
   waits : (qs : List ℕ) (q : ℕ) → is_among q qs ≡ true → 0 < (last rank).starts q → Lacks hears g last rank q → NonePending m (h rank) qs → ⊥
   waits qs q among begun lacks ready =
       let a = held_active q begun lacks in
-      not_done hears g k last grows m h tr heard rank q a.0 lacks (same_starts q) a.1 (unpending (is_active m (Some a.0)) (m.done a.0.slot) a.2 (ap (is_pending m) (sym a.1) ∙ ready q among))
+      not_done hears g k last grows m h tr heard rank q a.0 lacks (same_starts q) a.1
+      (unpending (is_active m (Some a.0)) (m.done a.0.slot) a.2 (ap (is_pending m) (sym a.1) ∙ ready q among))
 
   -- nor one for some, where none can be Done
-  waits_for_some : (qs : List ℕ) (q : ℕ) → is_among q qs ≡ true → 0 < (last rank).starts q → Lacks hears g last rank q → Each qs (CantBeDone hears g last rank) → NoneActive m (h rank) qs ⊎ OneDone m (h rank) qs → ⊥
+  waits_for_some : (qs : List ℕ) (q : ℕ) → is_among q qs ≡ true → 0 < (last rank).starts q → Lacks hears g last rank q
+      → Each qs (CantBeDone hears g last rank) → NoneActive m (h rank) qs ⊎ OneDone m (h rank) qs → ⊥
   waits_for_some qs q among begun lacks each (inl idle) =
       let a = held_active q begun lacks in
       false≢true (sym (ap (is_active m) (sym a.1) ∙ idle q among) ∙ a.2)
@@ -195,21 +211,30 @@ pub one_more_sketched : (lines : ℕ → List Command) (at : ℕ → ℕ) (rank 
     → put (sketches lines at) rank (sketched c (sketches lines at rank)) ≡ sketches lines (put at rank (suc (at rank)))
 one_more_sketched lines at rank c get = λ z r. each r (cases_eq r rank) z
   where
-    each : (r : ℕ) → (r ≡ rank) ⊎ (r ≡ rank → ⊥) → put (sketches lines at) rank (sketched c (sketches lines at rank)) r ≡ sketches lines (put at rank (suc (at rank))) r
+    each : (r : ℕ) → (r ≡ rank) ⊎ (r ≡ rank → ⊥)
+        → put (sketches lines at) rank (sketched c (sketches lines at rank)) r ≡ sketches lines (put at rank (suc (at rank))) r
     each r (inl e) =
-        let after : sketches lines (put at rank (suc (at rank))) r ≡ sketch_at (lines rank) (suc (at rank)) = λ z. sketch_at (lines (e z)) (put_at at rank (suc (at rank)) r e z) in
-        put_at (sketches lines at) rank (sketched c (sketches lines at rank)) r e ∙ sym (after ∙ ap (λ (o : Option Command). sketched_if o (sketch_at (lines rank) (at rank))) get)
+        let after : sketches lines (put at rank (suc (at rank))) r ≡ sketch_at (lines rank) (suc (at rank)) =
+        λ z. sketch_at (lines (e z)) (put_at at rank (suc (at rank)) r e z) in
+        put_at (sketches lines at) rank (sketched c (sketches lines at rank)) r e
+        ∙ sym (after ∙ ap (λ (o : Option Command). sketched_if o (sketch_at (lines rank) (at rank))) get)
     each r (inr d) =
         put_other (sketches lines at) rank (sketched c (sketches lines at rank)) r d ∙ sym (ap (sketch_at (lines r)) (put_other at rank (suc (at rank)) r d))
 
 -- a request that is ready may become Done
-pub finish_of : (g : Setting) (m : Machine) (slot start : ℕ) (q : Request) (sig : Signature) → m.state.request slot ≡ Some q → m.done slot ≡ false → IsReady g m.state q start sig
+pub finish_of : (g : Setting) (m : Machine) (slot start : ℕ) (q : Request) (sig : Signature) → m.state.request slot ≡ Some q
+    → m.done slot ≡ false → IsReady g m.state q start sig
     → MachineStep g m calls.Finish calls.Nothing (phased m.state (put m.done slot true))
-finish_of g m slot start q sig is pending ready = machine.finish slot (record { request = q; sig = sig; start = start; is = is; pending = pending; ready = ready; leaves = refl })
+finish_of g m slot start q sig is pending ready =
+    machine.finish slot (record { request = q; sig = sig; start = start; is = is; pending = pending; ready = ready; leaves = refl })
 
-finishes_of : (g : Setting) (m n : Machine) → MachineStep g m calls.Finish calls.Nothing n → (slot : ℕ) × Finishes g m slot (put m.done slot true) × (n ≡ phased m.state (put m.done slot true))
-finishes_of g _ _ (machine.finish {m} {done} slot f) =
-    (slot, record { request = f.request; sig = f.sig; start = f.start; is = f.is; pending = f.pending; ready = f.ready; leaves = refl }, ap (phased m.state) f.leaves)
+finishes_of : (g : Setting) (m n : Machine) → MachineStep g m calls.Finish calls.Nothing n
+    → (slot : ℕ) × Finishes g m slot (put m.done slot true) × (n ≡ phased m.state (put m.done slot true))
+finishes_of g _ _ (machine.finish {m} {done} slot f) = (
+  slot,
+  record { request = f.request; sig = f.sig; start = f.start; is = f.is; pending = f.pending; ready = f.ready; leaves = refl },
+  ap (phased m.state) f.leaves,
+)
 
 one_later : (a b c : ℕ) → b ≡ a → c ≡ suc a → b ≤ c
 one_later a b c e f = omega arith
@@ -230,38 +255,48 @@ module _ (hears : Hearing) (g : Setting) (lines : ℕ → List Command) (last : 
   grown : (s : Standing) → IsWithin hears g lines last s → (r : ℕ) → Grows (sketches lines s.at r) (sketches lines last r)
   grown s w r = sketch_grows (lines r) (s.at r) (last r) (w.within r)
 
-  before : (s : Standing) (rank : ℕ) (c : Command) (n : Machine) (i : Holding) → IsWithin hears g lines last s → slice_get (lines rank) (s.at rank) ≡ Some c → Carries g rank s.machine (s.holds rank) c n i → s.at rank < last rank
+  before : (s : Standing) (rank : ℕ) (c : Command) (n : Machine) (i : Holding) → IsWithin hears g lines last s
+      → slice_get (lines rank) (s.at rank) ≡ Some c → Carries g rank s.machine (s.holds rank) c n i → s.at rank < last rank
   before s rank c n i w get step = go (cases_eq (s.at rank) (last rank))
     where
       go : (s.at rank ≡ last rank) ⊎ (s.at rank ≡ last rank → ⊥) → s.at rank < last rank
-      go (inl e) = absurd (blocked hears g s.machine s.holds (sketches lines s.at) (sketches lines last) rank w.tracks w.heard (grown s w) (ap (sketch_at (lines rank)) e) c n i
+      go (inl e) =
+          absurd (blocked hears g s.machine s.holds (sketches lines s.at) (sketches lines last) rank w.tracks w.heard (grown s w)
+          (ap (sketch_at (lines rank)) e) c n i
           (closed rank c (ap (slice_get (lines rank)) (sym e) ∙ get)) step)
       go (inr d) = less (s.at rank) (last rank) (w.within rank) d
 
-  within_carries : (s : Standing) (rank : ℕ) (c : Command) (n : Machine) (i : Holding) → IsWithin hears g lines last s → slice_get (lines rank) (s.at rank) ≡ Some c → Carries g rank s.machine (s.holds rank) c n i
+  within_carries : (s : Standing) (rank : ℕ) (c : Command) (n : Machine) (i : Holding) → IsWithin hears g lines last s
+      → slice_get (lines rank) (s.at rank) ≡ Some c → Carries g rank s.machine (s.holds rank) c n i
       → IsWithin hears g lines last (carried_out s rank n i)
   within_carries s rank c n i w get step = record {
     tracks = subst (λ (k : ℕ → Sketch). Tracks (IsUp hears g (sketches lines last)) g n (put s.holds rank i) k) (one_more_sketched lines s.at rank c get)
-        (carried (IsUp hears g (sketches lines last)) g s.machine s.holds (sketches lines s.at) rank (never_up hears g (sketches lines last) rank) (never_done hears g (sketches lines s.at) (sketches lines last) (grown s w) s.machine w.heard) w.tracks c n i step);
-    heard = carried_heard hears g s.machine (s.holds rank) (sketches lines s.at) (sketches lines (put s.at rank (suc (s.at rank)))) rank more w.heard c n i step;
+        (carried (IsUp hears g (sketches lines last)) g s.machine s.holds (sketches lines s.at) rank
+        (never_up hears g (sketches lines last) rank)
+        (never_done hears g (sketches lines s.at) (sketches lines last) (grown s w) s.machine w.heard) w.tracks c n i step);
+    heard = carried_heard hears g s.machine (s.holds rank) (sketches lines s.at)
+        (sketches lines (put s.at rank (suc (s.at rank)))) rank more w.heard c n i step;
     within = λ r. go r (put_cases s.at rank (suc (s.at rank)) r);
   }
     where
-      later : (r : ℕ) → ((r ≡ rank) × (put s.at rank (suc (s.at rank)) r ≡ suc (s.at rank))) ⊎ ((r ≡ rank → ⊥) × (put s.at rank (suc (s.at rank)) r ≡ s.at r)) → s.at r ≤ put s.at rank (suc (s.at rank)) r
+      later : (r : ℕ) → ((r ≡ rank) × (put s.at rank (suc (s.at rank)) r ≡ suc (s.at rank)))
+          ⊎ ((r ≡ rank → ⊥) × (put s.at rank (suc (s.at rank)) r ≡ s.at r)) → s.at r ≤ put s.at rank (suc (s.at rank)) r
       later r (inl a) = one_later (s.at rank) (s.at r) (put s.at rank (suc (s.at rank)) r) (ap s.at a.0) a.1
       later r (inr a) = le_at (s.at r) (s.at r) (put s.at rank (suc (s.at rank)) r) refl (sym_le (put s.at rank (suc (s.at rank)) r) (s.at r) a.1)
 
       more : (r : ℕ) → Grows (sketches lines s.at r) (sketches lines (put s.at rank (suc (s.at rank))) r)
       more r = sketch_grows (lines r) (s.at r) (put s.at rank (suc (s.at rank)) r) (later r (put_cases s.at rank (suc (s.at rank)) r))
 
-      go : (r : ℕ) → ((r ≡ rank) × (put s.at rank (suc (s.at rank)) r ≡ suc (s.at rank))) ⊎ ((r ≡ rank → ⊥) × (put s.at rank (suc (s.at rank)) r ≡ s.at r)) → put s.at rank (suc (s.at rank)) r ≤ last r
+      go : (r : ℕ) → ((r ≡ rank) × (put s.at rank (suc (s.at rank)) r ≡ suc (s.at rank)))
+          ⊎ ((r ≡ rank → ⊥) × (put s.at rank (suc (s.at rank)) r ≡ s.at r)) → put s.at rank (suc (s.at rank)) r ≤ last r
       go r (inl a) = up_to (s.at rank) (last rank) (last r) (put s.at rank (suc (s.at rank)) r) a.1 (before s rank c n i w get step) (ap last (sym a.0))
       go r (inr a) = le_at (s.at r) (put s.at rank (suc (s.at rank)) r) (last r) a.1 (w.within r)
 
   within_step : (s u : Standing) → IsWithin hears g lines last s → StepsBy hears g lines s u → IsWithin hears g lines last u
   within_step s _ w (carries {n} {i} rank c get step) = within_carries s rank c n i w get step
   within_step s _ w (finishes slot start q sig is pending has) = record {
-    tracks = finished (IsUp hears g (sketches lines last)) g s.machine (phased s.machine.state (put s.machine.done slot true)) s.holds (sketches lines s.at) w.tracks (finish_of g s.machine slot start q sig is pending has.ready);
+    tracks = finished (IsUp hears g (sketches lines last)) g s.machine (phased s.machine.state (put s.machine.done slot true))
+        s.holds (sketches lines s.at) w.tracks (finish_of g s.machine slot start q sig is pending has.ready);
     heard = finished_heard hears (IsUp hears g (sketches lines last)) g s.machine s.holds (sketches lines s.at) slot start q sig w.tracks is has w.heard;
     within = w.within;
   }

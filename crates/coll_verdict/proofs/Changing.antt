@@ -9,7 +9,8 @@ use Rattle.coll_kinds.specs.declared.signature.Signature.{Signature}
 use Rattle.coll_kinds.specs.declared.ticket.Ticket.{Ticket}
 use Rattle.coll_kinds.specs.Puts.{put}
 use Rattle.coll_kinds.proofs.Puts.{put_same, put_other, put_cases}
-use Rattle.coll_machine.specs.Common.{Setting, Request, State, found, key_of, put_key, put_in, new_request, created, once_more, started, rested, rested_by, holding, forgotten, Planned, Posts, Inits, Frees, Retires, Clears}
+use Rattle.coll_machine.specs.Common.{Setting, Request, State, found, key_of, put_key, put_in, new_request, created, once_more, started, rested}
+use Rattle.coll_machine.specs.Common.{rested_by, holding, forgotten, Planned, Posts, Inits, Frees, Retires, Clears}
 use Rattle.coll_machine.specs.declared.key.Key.{Key}
 use Rattle.coll_machine.proofs.Posted.{still_there}
 use Rattle.coll_machine.proofs.Pushed.{get_pushed, length_pushed}
@@ -31,12 +32,14 @@ module _ (g : Setting) (s : State) (t : Ticket) (q : Request) (sig : Signature) 
   created_others : (c m : ℕ) → ((c ≡ q.comm) × (m ≡ q.member) → ⊥) → (created s t q sig).posts c m ≡ s.posts c m
   created_others c m d = go (put2_cases s.posts q.comm q.member (s.posts q.comm q.member ++ sig ∷ []) c m)
     where
-      go : ((c ≡ q.comm) × (m ≡ q.member) × ((created s t q sig).posts c m ≡ s.posts q.comm q.member ++ sig ∷ [])) ⊎ (((c ≡ q.comm) × (m ≡ q.member) → ⊥) × ((created s t q sig).posts c m ≡ s.posts c m))
+      go : ((c ≡ q.comm) × (m ≡ q.member) × ((created s t q sig).posts c m ≡ s.posts q.comm q.member ++ sig ∷ []))
+          ⊎ (((c ≡ q.comm) × (m ≡ q.member) → ⊥) × ((created s t q sig).posts c m ≡ s.posts c m))
           → (created s t q sig).posts c m ≡ s.posts c m
       go (inl a) = absurd (d (a.0, a.1))
       go (inr a) = a.1
 
-pub makes_init : (g : Setting) (s u : State) (rank comm place : ℕ) (plan : Planned) (t : Ticket) → (p : Inits g s rank t comm place plan u) → Makes g s u rank comm p.member t plan.sig 0 false
+pub makes_init : (g : Setting) (s u : State) (rank comm place : ℕ) (plan : Planned) (t : Ticket)
+    → (p : Inits g s rank t comm place plan u) → Makes g s u rank comm p.member t plan.sig 0 false
 makes_init g s u rank comm place plan t p = subst (λ (u : State). Makes g s u rank comm p.member t plan.sig 0 false) (sym p.leaves) made
   where
     made : Makes g s (created s t (new_request rank comm p.member place Persistent) plan.sig) rank comm p.member t plan.sig 0 false
@@ -65,22 +68,26 @@ makes_init g s u rank comm place plan t p = subst (λ (u : State). Makes g s u r
 one : 0 < 1
 one = omega arith
 
-pub makes_post : (g : Setting) (s u : State) (rank comm place : ℕ) (plan : Planned) (bytes : List ℕ) (t : Ticket) → (p : Posts g s rank t comm place plan bytes u) → Makes g s u rank comm p.member t plan.sig 1 true
+pub makes_post : (g : Setting) (s u : State) (rank comm place : ℕ) (plan : Planned) (bytes : List ℕ) (t : Ticket)
+    → (p : Posts g s rank t comm place plan bytes u) → Makes g s u rank comm p.member t plan.sig 1 true
 makes_post g s u rank comm place plan bytes t p = subst (λ (u : State). Makes g s u rank comm p.member t plan.sig 1 true) (sym p.leaves) made
   where
-    made : Makes g s (started (created s t (new_request rank comm p.member place Once) plan.sig) t.slot (new_request rank comm p.member place Once) bytes) rank comm p.member t plan.sig 1 true
+    made : Makes g s (started (created s t (new_request rank comm p.member place Once) plan.sig) t.slot
+        (new_request rank comm p.member place Once) bytes) rank comm p.member t plan.sig 1 true
     made = record {
       moves = record {
         generation = λ i d. put_other s.generation t.slot t.generation i d;
         request = λ i d. (
-            put_other (put s.request t.slot (Some (new_request rank comm p.member place Once))) t.slot (Some (once_more (new_request rank comm p.member place Once))) i d
+            put_other (put s.request t.slot (Some (new_request rank comm p.member place Once))) t.slot
+            (Some (once_more (new_request rank comm p.member place Once))) i d
             ∙ put_other s.request t.slot (Some (new_request rank comm p.member place Once)) i d);
         posts = still_there s t (new_request rank comm p.member place Once) plan.sig;
       };
       spare = p.new.spare;
       current = put_same s.generation t.slot t.generation;
       request = once_more (new_request rank comm p.member place Once);
-      is = put_same (put s.request t.slot (Some (new_request rank comm p.member place Once))) t.slot (Some (once_more (new_request rank comm p.member place Once)));
+      is = put_same (put s.request t.slot (Some (new_request rank comm p.member place Once))) t.slot
+          (Some (once_more (new_request rank comm p.member place Once)));
       is_member = p.member_is;
       rank_is = refl;
       comm_is = refl;
@@ -96,16 +103,19 @@ makes_post g s u rank comm place plan bytes t p = subst (λ (u : State). Makes g
 -- ---- what was given
 
 -- what is given after one more contribution was given before, or is that one
-pub given_before : (f : Key → ℕ → Option (List ℕ)) (k : Key) (member : ℕ) (bytes : List ℕ) (key : Key) (m : ℕ) (b : List ℕ) → put_in f k member (Some bytes) key m ≡ Some b
+pub given_before : (f : Key → ℕ → Option (List ℕ)) (k : Key) (member : ℕ) (bytes : List ℕ) (key : Key) (m : ℕ) (b : List ℕ)
+    → put_in f k member (Some bytes) key m ≡ Some b
     → (f key m ≡ Some b) ⊎ ((key ≡ k) × (m ≡ member))
 given_before f k member bytes key m b e = go (put_key_cases f k (put (f k) member (Some bytes)) key)
   where
     inner : key ≡ k → put (f k) member (Some bytes) m ≡ Some b
-        → ((m ≡ member) × (put (f k) member (Some bytes) m ≡ Some bytes)) ⊎ ((m ≡ member → ⊥) × (put (f k) member (Some bytes) m ≡ f k m)) → (f key m ≡ Some b) ⊎ ((key ≡ k) × (m ≡ member))
+        → ((m ≡ member) × (put (f k) member (Some bytes) m ≡ Some bytes)) ⊎ ((m ≡ member → ⊥) × (put (f k) member (Some bytes) m ≡ f k m))
+        → (f key m ≡ Some b) ⊎ ((key ≡ k) × (m ≡ member))
     inner x h (inl a) = inr (x, a.0)
     inner x h (inr a) = inl (ap (λ (k : Key). f k m) x ∙ (sym a.1 ∙ h))
 
-    go : ((key ≡ k) × (put_key f k (put (f k) member (Some bytes)) key ≡ put (f k) member (Some bytes))) ⊎ ((key ≡ k → ⊥) × (put_key f k (put (f k) member (Some bytes)) key ≡ f key)) → (f key m ≡ Some b) ⊎ ((key ≡ k) × (m ≡ member))
+    go : ((key ≡ k) × (put_key f k (put (f k) member (Some bytes)) key ≡ put (f k) member (Some bytes)))
+        ⊎ ((key ≡ k → ⊥) × (put_key f k (put (f k) member (Some bytes)) key ≡ f key)) → (f key m ≡ Some b) ⊎ ((key ≡ k) × (m ≡ member))
     go (inl a) = inner a.0 (ap (λ (f : ℕ → Option (List ℕ)). f m) (sym a.1) ∙ e) (put_cases (f k) member (Some bytes) m)
     go (inr a) = inl (ap (λ (f : ℕ → Option (List ℕ)). f m) (sym a.1) ∙ e)
 
@@ -116,7 +126,8 @@ GivesLess s u = (key : Key) (m : ℕ) (b : List ℕ) → u.given key m ≡ Some 
 forgets : (s : State) (k : Key) → GivesLess s (forgotten s k)
 forgets s k key m b e = go (put_key_cases s.given k (λ m. None) key)
   where
-    go : ((key ≡ k) × (put_key s.given k (λ m. None) key ≡ λ m. None)) ⊎ ((key ≡ k → ⊥) × (put_key s.given k (λ m. None) key ≡ s.given key)) → s.given key m ≡ Some b
+    go : ((key ≡ k) × (put_key s.given k (λ m. None) key ≡ λ m. None)) ⊎ ((key ≡ k → ⊥) × (put_key s.given k (λ m. None) key ≡ s.given key))
+        → s.given key m ≡ Some b
     go (inl a) = absurd (none-some b (ap (λ (f : ℕ → Option (List ℕ)). f m) (sym a.1) ∙ e))
     go (inr a) = ap (λ (f : ℕ → Option (List ℕ)). f m) (sym a.1) ∙ e
 
@@ -152,7 +163,8 @@ leaves_cleared : (g : Setting) (s u : State) (slot : ℕ) (request : Option Requ
 leaves_cleared g s u slot request k (inl a) = subst (λ (u : State). Leaves s u slot request) (sym a.1) (leaves_forgotten s slot request k)
 leaves_cleared g s u slot request k (inr a) = subst (λ (u : State). Leaves s u slot request) (sym a.1) (leaves_holding s slot request)
 
-pub leaves_retired : (g : Setting) (s u : State) (rank comm place start : ℕ) (bytes : List ℕ) (t : Ticket) → (r : Retires g s rank t comm place start bytes u) → Leaves s u t.slot (rested r.request)
+pub leaves_retired : (g : Setting) (s u : State) (rank comm place start : ℕ) (bytes : List ℕ) (t : Ticket)
+    → (r : Retires g s rank t comm place start bytes u) → Leaves s u t.slot (rested r.request)
 leaves_retired g s u rank comm place start bytes t r = leaves_cleared g s u t.slot (rested r.request) (key_of r.request start) r.leaves
 
 pub leaves_freed : (g : Setting) (s u : State) (rank : ℕ) (t : Ticket) → Frees g s rank t u → Leaves s u t.slot None

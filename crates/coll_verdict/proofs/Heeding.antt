@@ -42,7 +42,8 @@ AreHeard hears g m k = (slot : ℕ) → m.done slot ≡ true → HeardAt hears g
 pub record Stays (m n : Machine) : Type 0 where
   pub done : (i : ℕ) → n.done i ≡ true → m.done i ≡ true
   pub request : (i : ℕ) → n.done i ≡ true → n.state.request i ≡ m.state.request i
-  pub posts : (comm member place : ℕ) (sig : Signature) → slice_get (m.state.posts comm member) place ≡ Some sig → slice_get (n.state.posts comm member) place ≡ Some sig
+  pub posts : (comm member place : ℕ) (sig : Signature) → slice_get (m.state.posts comm member) place ≡ Some sig
+      → slice_get (n.state.posts comm member) place ≡ Some sig
 
 same_stays : (m : Machine) → Stays m m
 same_stays m = record { done = λ i d. d; request = λ i d. refl; posts = λ comm member place sig e. e }
@@ -54,7 +55,8 @@ stays_on m n o a b = record {
   posts = λ comm member place sig e. b.posts comm member place sig (a.posts comm member place sig e);
 }
 
-pub heard_stays : (hears : Hearing) (g : Setting) (m n : Machine) (j k : ℕ → Sketch) → ((r : ℕ) → Grows (j r) (k r)) → Stays m n → AreHeard hears g m j → AreHeard hears g n k
+pub heard_stays : (hears : Hearing) (g : Setting) (m n : Machine) (j k : ℕ → Sketch) → ((r : ℕ) → Grows (j r) (k r)) → Stays m n
+    → AreHeard hears g m j → AreHeard hears g n k
 heard_stays hears g m n j k grows st heard slot d =
     let h = heard slot (st.done slot d) in
     record {
@@ -81,7 +83,8 @@ module _ (hears : Hearing) (g : Setting) (k : ℕ → Sketch) where
   not_spare : (m : Machine) (slot : ℕ) → AreHeard hears g m k → m.state.request slot ≡ None → (i : ℕ) → m.done i ≡ true → (i ≡ slot → ⊥) × (m.done i ≡ true)
   not_spare m slot heard spare i d = (λ e. (let h = heard i d in none-some h.request (sym spare ∙ (ap m.state.request (sym e) ∙ h.is))), d)
 
-  not_idle : (m : Machine) (slot : ℕ) (request : Request) → AreHeard hears g m k → m.state.request slot ≡ Some request → request.active ≡ false → (i : ℕ) → m.done i ≡ true → (i ≡ slot → ⊥) × (m.done i ≡ true)
+  not_idle : (m : Machine) (slot : ℕ) (request : Request) → AreHeard hears g m k → m.state.request slot ≡ Some request
+      → request.active ≡ false → (i : ℕ) → m.done i ≡ true → (i ≡ slot → ⊥) × (m.done i ≡ true)
   not_idle m slot request heard is idle i d = (
     λ e. (
         let h = heard i d in
@@ -98,14 +101,16 @@ module _ (hears : Hearing) (g : Setting) (k : ℕ → Sketch) where
       let mk = makes_init g s u rank comm place plan t p in
       moves_stay (steps.phased s done) (steps.phased u done) t.slot mk.moves (not_spare (steps.phased s done) t.slot heard mk.spare)
   step_stays _ _ _ _ heard other (steps.start {s} {u} {done} rank begin t bytes p) =
-      moves_stay (steps.phased s done) (steps.phased u done) t.slot (subst (λ (v : State). Moves s v t.slot) (sym p.leaves) (started_moves s t.slot p.request bytes))
+      moves_stay (steps.phased s done) (steps.phased u done) t.slot
+      (subst (λ (v : State). Moves s v t.slot) (sym p.leaves) (started_moves s t.slot p.request bytes))
       (not_idle (steps.phased s done) t.slot p.request heard (found_is s t p.request p.is).1 (started_mine g s rank t bytes p.request p.is p.accepted).idle)
   step_stays _ _ _ _ heard other (steps.finish {m} {done} slot f) = absurd (other refl)
   step_stays _ _ _ _ heard other (steps.retire {s} {u} {done} rank t comm place begin bytes r d) =
       moves_stay (steps.phased s done) (steps.phased u (put done t.slot false)) t.slot
       (leaves_moves s u t.slot _ (leaves_retired g s u rank comm place begin bytes t r)) (λ i e. off i e (put_cases done t.slot false i))
     where
-      off : (i : ℕ) → put done t.slot false i ≡ true → ((i ≡ t.slot) × (put done t.slot false i ≡ false)) ⊎ ((i ≡ t.slot → ⊥) × (put done t.slot false i ≡ done i)) → (i ≡ t.slot → ⊥) × (done i ≡ true)
+      off : (i : ℕ) → put done t.slot false i ≡ true
+          → ((i ≡ t.slot) × (put done t.slot false i ≡ false)) ⊎ ((i ≡ t.slot → ⊥) × (put done t.slot false i ≡ done i)) → (i ≡ t.slot → ⊥) × (done i ≡ true)
       off i e (inl a) = absurd (false≢true (sym a.1 ∙ e))
       off i e (inr a) = (a.0, sym a.1 ∙ e)
   step_stays _ _ _ _ heard other (steps.wait {m} rank t h d) = same_stays m
@@ -116,8 +121,10 @@ module _ (hears : Hearing) (g : Setting) (k : ℕ → Sketch) where
   step_stays _ _ _ _ heard other (steps.refuse {m} call why h) = same_stays m
   step_stays _ _ _ _ heard other (steps.short {m} call takes h) = same_stays m
 
-  retire_stays : (rank comm place begin : ℕ) (bytes : List ℕ) (t : Ticket) (m n : Machine) → AreHeard hears g m k → MachineStep g m (calls.Retire rank t) (calls.Outcome rank comm place begin bytes) n → Stays m n
-  retire_stays rank comm place begin bytes t m n heard step = step_stays m n (calls.Retire rank t) (calls.Outcome rank comm place begin bytes) heard (λ e. absurd cc) step
+  retire_stays : (rank comm place begin : ℕ) (bytes : List ℕ) (t : Ticket) (m n : Machine) → AreHeard hears g m k
+      → MachineStep g m (calls.Retire rank t) (calls.Outcome rank comm place begin bytes) n → Stays m n
+  retire_stays rank comm place begin bytes t m n heard step =
+      step_stays m n (calls.Retire rank t) (calls.Outcome rank comm place begin bytes) heard (λ e. absurd cc) step
 
   completes_stay : (rank : ℕ) (qs : List ℕ) (m n : Machine) (x y : Holding) → AreHeard hears g m k → Completes g rank qs m x n y → Stays m n
   completes_stay rank qs _ _ _ _ heard (standings.none {m} {h}) = same_stays m
@@ -126,29 +133,36 @@ module _ (hears : Hearing) (g : Setting) (k : ℕ → Sketch) where
       stays_on m mid n first (completes_stay rank qs mid n _ y (heard_stays hears g m mid k k (λ r. same_grows (k r)) first heard) more)
 
   carries_stay : (rank : ℕ) (m : Machine) (h : Holding) (c : Command) (n : Machine) (i : Holding) → AreHeard hears g m k → Carries g rank m h c n i → Stays m n
-  carries_stay rank m h _ _ _ heard (standings.post {n} comm sig given plan t e step) = step_stays m n (calls.Post rank comm plan given) (calls.Ticketed t) heard (λ e. absurd cc) step
-  carries_stay rank m h _ _ _ heard (standings.init {n} comm sig plan t e step) = step_stays m n (calls.Init rank comm plan) (calls.Ticketed t) heard (λ e. absurd cc) step
-  carries_stay rank m h _ _ _ heard (standings.start {n} q given t held step) = step_stays m n (calls.Start rank t given) calls.Nothing heard (λ e. absurd cc) step
+  carries_stay rank m h _ _ _ heard (standings.post {n} comm sig given plan t e step) =
+      step_stays m n (calls.Post rank comm plan given) (calls.Ticketed t) heard (λ e. absurd cc) step
+  carries_stay rank m h _ _ _ heard (standings.init {n} comm sig plan t e step) =
+      step_stays m n (calls.Init rank comm plan) (calls.Ticketed t) heard (λ e. absurd cc) step
+  carries_stay rank m h _ _ _ heard (standings.start {n} q given t held step) =
+      step_stays m n (calls.Start rank t given) calls.Nothing heard (λ e. absurd cc) step
   carries_stay rank m h _ _ _ heard (standings.free {n} q t held step) = step_stays m n (calls.Free rank t) calls.Nothing heard (λ e. absurd cc) step
   carries_stay rank m h _ _ _ heard (standings.test {n} {i} q done over) = completes_stay rank (q ∷ []) m n h i heard done
   carries_stay rank m h _ _ _ heard (standings.wait {n} {i} q ready done over) = completes_stay rank (q ∷ []) m n h i heard done
   carries_stay rank m h _ _ _ heard (standings.wait_all {n} {i} qs ready done over) = completes_stay rank qs m n h i heard done
   carries_stay rank m h _ _ _ heard (standings.wait_some {n} {i} qs ready done over) = completes_stay rank qs m n h i heard done
   carries_stay rank m h _ _ _ heard (standings.wait_for_none qs idle) = same_stays m
-  carries_stay rank m h _ _ _ heard (standings.wait_any {n} qs q comm place begin bytes t among held step) = retire_stays rank comm place begin bytes t m n heard step
+  carries_stay rank m h _ _ _ heard (standings.wait_any {n} qs q comm place begin bytes t among held step) =
+      retire_stays rank comm place begin bytes t m n heard step
 
 pub followed_heard : (hears : Hearing) (g : Setting) (m n : Machine) (k : ℕ → Sketch) → AreHeard hears g m k → Follows g m n → AreHeard hears g n k
 followed_heard hears g _ _ k heard (here {m}) = heard
 followed_heard hears g _ _ k heard (further {m} {n} {last} rank comm place begin bytes t step more) =
-    followed_heard hears g n last k (heard_stays hears g m n k k (λ r. same_grows (k r)) (retire_stays hears g k rank comm place begin bytes t m n heard step) heard) more
+    followed_heard hears g n last k
+    (heard_stays hears g m n k k (λ r. same_grows (k r)) (retire_stays hears g k rank comm place begin bytes t m n heard step) heard) more
 
-pub carried_heard : (hears : Hearing) (g : Setting) (m : Machine) (h : Holding) (j k : ℕ → Sketch) (rank : ℕ) → ((r : ℕ) → Grows (j r) (k r)) → AreHeard hears g m j
+pub carried_heard : (hears : Hearing) (g : Setting) (m : Machine) (h : Holding) (j k : ℕ → Sketch) (rank : ℕ)
+    → ((r : ℕ) → Grows (j r) (k r)) → AreHeard hears g m j
     → (c : Command) (n : Machine) (i : Holding) → Carries g rank m h c n i → AreHeard hears g n k
 carried_heard hears g m h j k rank grows heard c n i step = heard_stays hears g m n j k grows (carries_stay hears g j rank m h c n i heard step) heard
 
 -- ---- a request becomes Done
 
-pub finished_heard : (hears : Hearing) (up : ℕ → ℕ → ℕ → Type 0) (g : Setting) (m : Machine) (h : ℕ → Holding) (k : ℕ → Sketch) (slot start : ℕ) (q : Request) (sig : Signature) → Tracks up g m h k → m.state.request slot ≡ Some q
+pub finished_heard : (hears : Hearing) (up : ℕ → ℕ → ℕ → Type 0) (g : Setting) (m : Machine) (h : ℕ → Holding) (k : ℕ → Sketch)
+    (slot start : ℕ) (q : Request) (sig : Signature) → Tracks up g m h k → m.state.request slot ≡ Some q
     → HasHeard hears g m.state q start sig → AreHeard hears g m k → AreHeard hears g (phased m.state (put m.done slot true)) k
 finished_heard hears up g m h k slot start q sig tr is has heard i d = go (put_cases m.done slot true i)
   where

@@ -1,5 +1,6 @@
 -- The worked rows of runs that go on to the end, and of one that can't go on.
-use Rattle.std.proofs.Common.{◌≡◌, ℕ, suc, ◌<◌, ◌⊎◌, inl, inr, Bool, false, true, ltb, List, [], ◌∷◌, length, Some, None, refl, sym, ap, subst, ◌∙◌, arith, le-ltb}
+use Rattle.std.proofs.Common.{◌≡◌, ℕ, suc, ◌<◌, ◌⊎◌, inl, inr, Bool, false, true, ltb, List, [], ◌∷◌, length, Some, None, refl, sym, ap, subst, ◌∙◌}
+use Rattle.std.proofs.Common.{arith, le-ltb}
 use Rattle.std.proofs.lemmas.Bool.{cases_eq, false≢true}
 use Rattle.std.proofs.lemmas.Option.{none-some, same_Some}
 use Rattle.std.specs.Prelude.{slice_get}
@@ -90,12 +91,14 @@ finish_of : (g : Setting) (m n : Machine) → MachineStep g m calls.Finish calls
 finish_of g _ _ (machine.finish {m} {done} slot f) = (slot, done, f)
 
 -- a barrier that lacks a member isn't Done
-not_ready : (request : Request) (start : ℕ) (sig : Signature) (r : Request) (other : ℕ) → r ≡ request → r.starts ≡ 1 → IsReady two both_posted.state request start sig → signature_of both_posted.state r ≡ Some barrier
+not_ready : (request : Request) (start : ℕ) (sig : Signature) (r : Request) (other : ℕ) → r ≡ request → r.starts ≡ 1
+    → IsReady two both_posted.state request start sig → signature_of both_posted.state r ≡ Some barrier
     → needs barrier (size two r.comm) r.member other ≡ true → both_posted.state.given (key_of r 0) other ≡ None → ⊥
 not_ready request start sig r other same one ready barrier_is need none =
     let zero : start ≡ 0 = first start request.starts ready.start_is (ap (λ (r : Request). r.starts) (sym same) ∙ one) in
     let own : barrier ≡ sig = same_Some barrier sig (sym barrier_is ∙ (ap (signature_of both_posted.state) same ∙ ready.sig_is)) in
-    ready.needed other (sym (λ z. needs (own z) (size two (same z).comm) (same z).member other) ∙ need) ((λ z. both_posted.state.given (key_of (sym same z) (zero z)) other) ∙ none)
+    ready.needed other (sym (λ z. needs (own z) (size two (same z).comm) (same z).member other) ∙ need)
+    ((λ z. both_posted.state.given (key_of (sym same z) (zero z)) other) ∙ none)
   where
     first : (a b : ℕ) → suc a ≡ b → b ≡ 1 → a ≡ 0
     first a b e h = omega arith
@@ -104,8 +107,12 @@ pub no_finish : (slot : ℕ) (done : ℕ → Bool) → Finishes two both_posted 
 no_finish slot done f = go (cases_eq slot 0) (cases_eq slot 1)
   where
     go : (slot ≡ 0) ⊎ (slot ≡ 0 → ⊥) → (slot ≡ 1) ⊎ (slot ≡ 1 → ⊥) → ⊥
-    go (inl x) y = not_ready f.request f.start f.sig (once_more first_request) 1 (same_Some (once_more first_request) f.request (ap both_posted.state.request (sym x) ∙ f.is)) refl f.ready refl refl refl
-    go (inr d) (inl x) = not_ready f.request f.start f.sig (once_more second_request) 0 (same_Some (once_more second_request) f.request (ap both_posted.state.request (sym x) ∙ f.is)) refl f.ready refl refl refl
+    go (inl x) y =
+        not_ready f.request f.start f.sig (once_more first_request) 1
+        (same_Some (once_more first_request) f.request (ap both_posted.state.request (sym x) ∙ f.is)) refl f.ready refl refl refl
+    go (inr d) (inl x) =
+        not_ready f.request f.start f.sig (once_more second_request) 0
+        (same_Some (once_more second_request) f.request (ap both_posted.state.request (sym x) ∙ f.is)) refl f.ready refl refl refl
     go (inr d) (inr b) = none-some f.request (sym (
         put_other (put one_posted.state.request 1 (Some second_request)) 1 (Some (once_more second_request)) slot b
         ∙ (put_other one_posted.state.request 1 (Some second_request) slot b

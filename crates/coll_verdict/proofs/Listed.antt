@@ -1,5 +1,6 @@
 -- Lists by their places, and tests of all or some of their items.
-use Rattle.std.proofs.Common.{◌≡◌, ℕ, zero, suc, ◌+◌, ◌<◌, ◌≤◌, ◌⊎◌, inl, inr, Bool, true, false, cond, eqb, ◌||◌, List, [], ◌∷◌, ◌++◌, length, take, set, get_or, count_by, Option, Some, None, refl, sym, ap, subst, ◌∙◌, arith, eq-eqb, eqb-true}
+use Rattle.std.proofs.Common.{◌≡◌, ℕ, zero, suc, ◌+◌, ◌<◌, ◌≤◌, ◌⊎◌, inl, inr, Bool, true, false, cond, eqb, ◌||◌, List, [], ◌∷◌, ◌++◌, length, take}
+use Rattle.std.proofs.Common.{set, get_or, count_by, Option, Some, None, refl, sym, ap, subst, ◌∙◌, arith, eq-eqb, eqb-true}
 use Rattle.std.proofs.lemmas.Bool.{and_parts, false≢true}
 use Rattle.std.proofs.lemmas.List.Sums.{sum_by_push, sum_by-cons}
 use Rattle.std.proofs.lemmas.Option.{none-some, same_Some}
@@ -20,7 +21,8 @@ pub any_at : {X : Type 0} (f : X → Bool) (xs : List X) → list_any f xs ≡ t
 any_at f [] e = absurd (false≢true e)
 any_at {X} f (y ∷ ys) e = go (λ e. any_at f ys e) (f y) refl e
   where
-    go : (list_any f ys ≡ true → (i : ℕ) × (x : X) × (slice_get ys i ≡ Some x) × (f x ≡ true)) → (b : Bool) → f y ≡ b → (b || list_any f ys) ≡ true → (i : ℕ) × (x : X) × (slice_get (y ∷ ys) i ≡ Some x) × (f x ≡ true)
+    go : (list_any f ys ≡ true → (i : ℕ) × (x : X) × (slice_get ys i ≡ Some x) × (f x ≡ true)) → (b : Bool) → f y ≡ b
+        → (b || list_any f ys) ≡ true → (i : ℕ) × (x : X) × (slice_get (y ∷ ys) i ≡ Some x) × (f x ≡ true)
     go rest true is e = (0, y, refl, is)
     go rest false is e = let r = rest e in (suc r.0, r.1, r.2, r.3)
 
@@ -38,7 +40,8 @@ pub any_among : (f : ℕ → Bool) (qs : List ℕ) → list_any f qs ≡ true �
 any_among f [] e = absurd (false≢true e)
 any_among f (y ∷ ys) e = go (λ e. any_among f ys e) (f y) refl e
   where
-    go : (list_any f ys ≡ true → (q : ℕ) × (is_among q ys ≡ true) × (f q ≡ true)) → (b : Bool) → f y ≡ b → (b || list_any f ys) ≡ true → (q : ℕ) × (is_among q (y ∷ ys) ≡ true) × (f q ≡ true)
+    go : (list_any f ys ≡ true → (q : ℕ) × (is_among q ys ≡ true) × (f q ≡ true)) → (b : Bool) → f y ≡ b
+        → (b || list_any f ys) ≡ true → (q : ℕ) × (is_among q (y ∷ ys) ≡ true) × (f q ≡ true)
     go rest true is e = (y, among_here y ys, is)
     go rest false is e = let r = rest e in (r.0, among_more (eqb y r.0) (is_among r.0 ys) r.1, r.2)
 
@@ -47,7 +50,8 @@ index_at [] i x e = absurd (none-some x e)
 index_at (y ∷ ys) zero x e = same_Some y x e
 index_at (y ∷ ys) (suc i) x e = index_at ys i x e
 
-pub get_changed : {X : Type 0} (xs : List X) (q : ℕ) (y : X) (i : ℕ) (z : X) → slice_get (set xs q y) i ≡ Some z → ((i ≡ q) × (y ≡ z)) ⊎ ((i ≡ q → ⊥) × (slice_get xs i ≡ Some z))
+pub get_changed : {X : Type 0} (xs : List X) (q : ℕ) (y : X) (i : ℕ) (z : X) → slice_get (set xs q y) i ≡ Some z
+    → ((i ≡ q) × (y ≡ z)) ⊎ ((i ≡ q → ⊥) × (slice_get xs i ≡ Some z))
 get_changed [] q y i z e = absurd (none-some z e)
 get_changed (x ∷ xs) zero y zero z e = inl (refl, same_Some y z e)
 get_changed (x ∷ xs) zero y (suc i) z e = inr (λ h. absurd (omega arith), e)
@@ -64,9 +68,11 @@ count_pushed p xs x = sum_by_push (λ x. cond (p x) 1 0) xs x
 pub count_changed : {X : Type 0} (p : X → Bool) (xs : List X) (q : ℕ) (x y : X) → slice_get xs q ≡ Some x → p y ≡ p x → count_by p (set xs q y) ≡ count_by p xs
 count_changed p [] q x y some e = absurd (none-some x some)
 count_changed p (z ∷ zs) zero x y some e =
-    sum_by-cons (λ x. cond (p x) 1 0) y zs ∙ (ap (λ b. cond b 1 0 + count_by p zs) (e ∙ ap p (sym (same_Some z x some))) ∙ sym (sum_by-cons (λ x. cond (p x) 1 0) z zs))
+    sum_by-cons (λ x. cond (p x) 1 0) y zs
+    ∙ (ap (λ b. cond b 1 0 + count_by p zs) (e ∙ ap p (sym (same_Some z x some))) ∙ sym (sum_by-cons (λ x. cond (p x) 1 0) z zs))
 count_changed p (z ∷ zs) (suc q) x y some e =
-    sum_by-cons (λ x. cond (p x) 1 0) z (set zs q y) ∙ (ap (λ n. cond (p z) 1 0 + n) (count_changed p zs q x y some e) ∙ sym (sum_by-cons (λ x. cond (p x) 1 0) z zs))
+    sum_by-cons (λ x. cond (p x) 1 0) z (set zs q y)
+    ∙ (ap (λ n. cond (p z) 1 0 + n) (count_changed p zs q x y some e) ∙ sym (sum_by-cons (λ x. cond (p x) 1 0) z zs))
 
 pub get_none : {X : Type 0} (xs : List X) (i : ℕ) → i < length xs → slice_get xs i ≡ None → ⊥
 get_none [] i low e = absurd (omega arith)

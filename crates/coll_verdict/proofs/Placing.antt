@@ -1,5 +1,6 @@
 -- The places of a rank's requests: each is below the number of its communicator's, and no two are the same.
-use Rattle.std.proofs.Common.{◌≡◌, ℕ, zero, suc, ◌+◌, ◌<◌, ◌≤◌, ◌⊎◌, inl, inr, Bool, true, false, cond, eqb, List, Option, Some, None, refl, sym, ap, ◌∙◌, arith, eq-eqb, ne_eqb}
+use Rattle.std.proofs.Common.{◌≡◌, ℕ, zero, suc, ◌+◌, ◌<◌, ◌≤◌, ◌⊎◌, inl, inr, Bool, true, false, cond, eqb, List, Option, Some, None, refl, sym, ap}
+use Rattle.std.proofs.Common.{◌∙◌, arith, eq-eqb, ne_eqb}
 use Rattle.std.proofs.lemmas.Bool.{cases_eq, false≢true}
 use Rattle.std.specs.Prelude.{slice_get}
 use Rattle.coll_kinds.specs.declared.signature.Signature.{Signature}
@@ -66,7 +67,8 @@ module _ (k : Sketch) (comm : ℕ) (sig : Signature) (starts : ℕ) (h : IsPlace
       go (inl x) (inl y) = x ∙ sym y
       go (inl x) (inr y) = absurd (differ p q m x y c s)
       go (inr x) (inl y) = absurd (differ q p l y x (sym c) (sym s))
-      go (inr x) (inr y) = h.apart p q (below_next p k.made l x) (below_next q k.made m y) (sym (old_comm p x) ∙ (c ∙ old_comm q y)) (sym (old_place p x) ∙ (s ∙ old_place q y))
+      go (inr x) (inr y) =
+          h.apart p q (below_next p k.made l x) (below_next q k.made m y) (sym (old_comm p x) ∙ (c ∙ old_comm q y)) (sym (old_place p x) ∙ (s ∙ old_place q y))
 
   making_placed : IsPlaced (making k comm sig starts)
   making_placed = record { low = made_low; apart = made_apart }
@@ -109,7 +111,9 @@ plus_none x z false e is = omega arith
 put_posted : (comm c : ℕ) (k : Sketch) → put k.posted c (suc (k.posted c)) comm ≡ k.posted comm + cond (eqb c comm) 1 0
 put_posted comm c k = go (put_cases k.posted c (suc (k.posted c)) comm)
   where
-    go : ((comm ≡ c) × (put k.posted c (suc (k.posted c)) comm ≡ suc (k.posted c))) ⊎ ((comm ≡ c → ⊥) × (put k.posted c (suc (k.posted c)) comm ≡ k.posted comm)) → put k.posted c (suc (k.posted c)) comm ≡ k.posted comm + cond (eqb c comm) 1 0
+    go : ((comm ≡ c) × (put k.posted c (suc (k.posted c)) comm ≡ suc (k.posted c)))
+        ⊎ ((comm ≡ c → ⊥) × (put k.posted c (suc (k.posted c)) comm ≡ k.posted comm))
+        → put k.posted c (suc (k.posted c)) comm ≡ k.posted comm + cond (eqb c comm) 1 0
     go (inl a) = plus_one (put k.posted c (suc (k.posted c)) comm) (k.posted c) (k.posted comm) (eqb c comm) a.1 (ap k.posted a.0) (eq-eqb c comm (sym a.0))
     go (inr a) = plus_none (put k.posted c (suc (k.posted c)) comm) (k.posted comm) (eqb c comm) a.1 (ne_eqb c comm (λ e. a.0 (sym e)))
 
@@ -130,7 +134,8 @@ posted_if comm (Some c) k = one_posted comm c k
 
 pub posted_is : (comm : ℕ) (lines : List Command) (n : ℕ) → (sketch_at lines n).posted comm ≡ made_by comm lines n
 posted_is comm lines zero = refl
-posted_is comm lines (suc n) = posted_if comm (slice_get lines n) (sketch_at lines n) ∙ ap (λ (m : ℕ). m + cond (makes_in comm (slice_get lines n)) 1 0) (posted_is comm lines n)
+posted_is comm lines (suc n) =
+    posted_if comm (slice_get lines n) (sketch_at lines n) ∙ ap (λ (m : ℕ). m + cond (makes_in comm (slice_get lines n)) 1 0) (posted_is comm lines n)
 
 more_than : (a b c : ℕ) → a ≤ b → a ≤ b + c
 more_than a b c low = omega arith

@@ -1,5 +1,6 @@
 -- The worked rows: a run that comes to its end, and stands that are closed.
-use Rattle.std.proofs.Common.{◌≡◌, ℕ, suc, ◌<◌, ◌⊎◌, inl, inr, Bool, true, false, ltb, eqb, ◌||◌, List, [], ◌∷◌, length, Option, Some, None, refl, sym, ap, subst, ◌∙◌, arith, eqb-true, le-ltb}
+use Rattle.std.proofs.Common.{◌≡◌, ℕ, suc, ◌<◌, ◌⊎◌, inl, inr, Bool, true, false, ltb, eqb, ◌||◌, List, [], ◌∷◌, length, Option, Some, None, refl}
+use Rattle.std.proofs.Common.{sym, ap, subst, ◌∙◌, arith, eqb-true, le-ltb}
 use Rattle.std.proofs.lemmas.Bool.{cases_eq, false≢true, and_parts, ltb-true}
 use Rattle.std.proofs.lemmas.Option.{none-some, same_Some}
 use Rattle.std.specs.Prelude.{slice_get}
@@ -7,20 +8,23 @@ use Rattle.coll_kinds.specs.declared.kind.Mode.TheVariants.{Once}
 use Rattle.coll_kinds.specs.declared.ticket.Ticket.{Ticket}
 use Rattle.coll_kinds.specs.Common.{member_of, is_among, needs, put}
 use Rattle.coll_kinds.proofs.Puts.{put_other}
-use Rattle.coll_machine.specs.Common.{Setting, group, group_in, size, Request, Machine, nothing, key_of, new_request, created, started, once_more, holding, Works, MachineStep, phased, barrier}
+use Rattle.coll_machine.specs.Common.{Setting, group, group_in, size, Request, Machine, nothing, key_of, new_request, created, started, once_more}
+use Rattle.coll_machine.specs.Common.{holding, Works, MachineStep, phased, barrier}
 use Rattle.coll_machine.specs.Calls as calls
 use Rattle.coll_machine.specs.Machines as machine
 use Rattle.coll_machine.proofs.Members.{member_at}
 use Rattle.coll_parser.specs.declared.command.Command.{Command}
 use Rattle.coll_parser.specs.declared.command.Command.TheVariants.{Post, Init, Wait, WaitAll}
 use Rattle.coll_verdict.specs.Standings as standings
-use Rattle.coll_verdict.specs.Standings.{Standing, Holding, beginning, nothing_made, one_more, holding_at, kept, carried_out, Reaches, Carries, Completes, AtEnd, is_pending, is_done}
+use Rattle.coll_verdict.specs.Standings.{Standing, Holding, beginning, nothing_made, one_more, holding_at, kept, carried_out, Reaches, Carries}
+use Rattle.coll_verdict.specs.Standings.{Completes, AtEnd, is_pending, is_done}
 use Rattle.coll_verdict.specs.Stalls.{lines_of, Waits, HasAll, IsStalled}
 use Rattle.coll_verdict.specs.Stalls as stalls
 use Rattle.coll_verdict.specs.Sketches.{Sketch}
 use Rattle.coll_verdict.specs.Stands as stands
 use Rattle.coll_verdict.specs.Stands.{Lacks, IsBlocked, sketches, AreClosed}
-use Rattle.coll_verdict.specs.Rows.{lone, one_rank, only_ticket, only_request, posted, done, left, crossed, LoneBarrierEnds, CrossedBarriersStall, CrossedBarriersMayStall, inits, CrossedInitsMayStall, CrossedEmptiesMayEnd}
+use Rattle.coll_verdict.specs.Rows.{lone, one_rank, only_ticket, only_request, posted, done, left, crossed, LoneBarrierEnds, CrossedBarriersStall}
+use Rattle.coll_verdict.specs.Rows.{CrossedBarriersMayStall, inits, CrossedInitsMayStall, CrossedEmptiesMayEnd}
 use Rattle.coll_verdict.proofs.Blocking.{closed_stands_stall}
 
 pub below_one : (P : ℕ → Type 0) → P 0 → (m : ℕ) → m < 1 → P m
@@ -52,10 +56,13 @@ posts = machine.post 0 0 0 (record { sig = barrier; n = 1; member = 0 }) [] only
 })
 
 pub given_all : (m : ℕ) → m < 1 → posted.state.given (key_of only_request 0) m ≡ None → ⊥
-given_all m low = below_one (λ m. posted.state.given (key_of only_request 0) m ≡ None → ⊥) (given_some (posted.state.given (key_of only_request 0) 0) [] refl) m low
+given_all m low =
+    below_one (λ m. posted.state.given (key_of only_request 0) m ≡ None → ⊥) (given_some (posted.state.given (key_of only_request 0) 0) [] refl) m low
 
 pub needed_all : (m : ℕ) → needs barrier 1 0 m ≡ true → posted.state.given (key_of only_request 0) m ≡ None → ⊥
-needed_all m need = below_one (λ m. posted.state.given (key_of only_request 0) m ≡ None → ⊥) (given_some (posted.state.given (key_of only_request 0) 0) [] refl) m (ltb-true m 1 (and_parts (ltb m 1) true need).0)
+needed_all m need =
+    below_one (λ m. posted.state.given (key_of only_request 0) m ≡ None → ⊥)
+    (given_some (posted.state.given (key_of only_request 0) 0) [] refl) m (ltb-true m 1 (and_parts (ltb m 1) true need).0)
 
 finishes : MachineStep one_rank posted calls.Finish calls.Nothing done
 finishes = machine.finish 0 (record {
@@ -73,7 +80,10 @@ gone m w = go (cases_eq w.slot 0)
   where
     go : (w.slot ≡ 0) ⊎ (w.slot ≡ 0 → ⊥) → ⊥
     go (inl e) = none-some w.request (ap (holding posted.state 0 None).request (sym e) ∙ w.is)
-    go (inr d) = none-some w.request (sym (put_other posted.state.request 0 None w.slot d ∙ (put_other (put nothing.request 0 (Some only_request)) 0 (Some (once_more only_request)) w.slot d ∙ put_other nothing.request 0 (Some only_request) w.slot d)) ∙ w.is)
+    go (inr d) =
+        none-some w.request (sym (put_other posted.state.request 0 None w.slot d
+        ∙ (put_other (put nothing.request 0 (Some only_request)) 0 (Some (once_more only_request)) w.slot d
+        ∙ put_other nothing.request 0 (Some only_request) w.slot d)) ∙ w.is)
 
 pub leaves : MachineStep one_rank done (calls.Retire 0 only_ticket) (calls.Outcome 0 0 0 0 []) left
 leaves = machine.retire 0 only_ticket 0 0 0 [] (record {
@@ -85,7 +95,14 @@ leaves = machine.retire 0 only_ticket 0 0 0 [] (record {
   place_is = refl;
   ready = record { active = refl; start_is = refl; sig_is = refl; needed = needed_all };
   bytes_is = refl;
-  leaves = inl (λ m low. (below_one (λ m. posted.state.given (key_of only_request 0) m ≡ None → ⊥) (given_some (posted.state.given (key_of only_request 0) 0) [] refl) m low, gone m), refl);
+  leaves = inl (
+    λ m low. (
+      below_one (λ m. posted.state.given (key_of only_request 0) m ≡ None → ⊥)
+          (given_some (posted.state.given (key_of only_request 0) 0) [] refl) m low,
+      gone m,
+    ),
+    refl,
+  );
 }) refl
 
 abbrev pub has_posted : Standing
@@ -133,7 +150,8 @@ at_wait rank = 1
 abbrev said : ℕ → Sketch
 said = sketches (lines_of crossed) at_wait
 
-other_is : (g : Setting) (comm peer other rank : ℕ) → group g comm ≡ 0 ∷ 1 ∷ [] → member_of peer (group g comm) ≡ Some other → member_of rank (0 ∷ 1 ∷ []) ≡ Some other → peer ≡ rank
+other_is : (g : Setting) (comm peer other rank : ℕ) → group g comm ≡ 0 ∷ 1 ∷ [] → member_of peer (group g comm) ≡ Some other
+    → member_of rank (0 ∷ 1 ∷ []) ≡ Some other → peer ≡ rank
 other_is g comm peer other rank groups is own = sym (member_at g comm peer other is).1 ∙ (member_at g comm rank other (ap (member_of rank) groups ∙ own)).1
 
 first_lacks : (g : Setting) → g.groups ≡ crossed.groups → Lacks needs g said 0 0
@@ -260,7 +278,8 @@ both_wait rank c get = go (cases_eq rank 0) (cases_eq rank 1)
         absurd (none-some c (rw none at get))
 
 -- the member that has not posted has given nothing
-lacks_one : (request : Request) (start other : ℕ) (r : Request) → r ≡ request → r.starts ≡ 1 → suc start ≡ request.starts → other < size two r.comm → both_posted.state.given (key_of r 0) other ≡ None
+lacks_one : (request : Request) (start other : ℕ) (r : Request) → r ≡ request → r.starts ≡ 1 → suc start ≡ request.starts
+    → other < size two r.comm → both_posted.state.given (key_of r 0) other ≡ None
     → ((i : ℕ) → i < size two request.comm → both_posted.state.given (key_of request start) i ≡ None → ⊥) → ⊥
 lacks_one request start other r same one last low none given =
     let zero : start ≡ 0 = first start request.starts last (ap (λ (r : Request). r.starts) (sym same) ∙ one) in
@@ -273,8 +292,12 @@ both_settled : (slot : ℕ) → HasAll two both_posted slot → both_posted.done
 both_settled slot has = absurd (go (cases_eq slot 0) (cases_eq slot 1))
   where
     go : (slot ≡ 0) ⊎ (slot ≡ 0 → ⊥) → (slot ≡ 1) ⊎ (slot ≡ 1 → ⊥) → ⊥
-    go (inl x) y = lacks_one has.request has.start 1 (once_more first_request) (same_Some (once_more first_request) has.request (ap both_posted.state.request (sym x) ∙ has.is)) refl has.last (omega arith) refl has.given
-    go (inr d) (inl x) = lacks_one has.request has.start 0 (once_more second_request) (same_Some (once_more second_request) has.request (ap both_posted.state.request (sym x) ∙ has.is)) refl has.last (omega arith) refl has.given
+    go (inl x) y =
+        lacks_one has.request has.start 1 (once_more first_request)
+        (same_Some (once_more first_request) has.request (ap both_posted.state.request (sym x) ∙ has.is)) refl has.last (omega arith) refl has.given
+    go (inr d) (inl x) =
+        lacks_one has.request has.start 0 (once_more second_request)
+        (same_Some (once_more second_request) has.request (ap both_posted.state.request (sym x) ∙ has.is)) refl has.last (omega arith) refl has.given
     go (inr d) (inr b) = none-some has.request (sym (
         put_other (put one_posted.state.request 1 (Some second_request)) 1 (Some (once_more second_request)) slot b
         ∙ (put_other one_posted.state.request 1 (Some second_request) slot b
@@ -282,7 +305,9 @@ both_settled slot has = absurd (go (cases_eq slot 0) (cases_eq slot 1))
         ∙ put_other nothing.request 0 (Some first_request) slot d))) ∙ has.is)
 
 pub crossed_barriers_may_stall : CrossedBarriersMayStall
-crossed_barriers_may_stall never = never two refl both_at_wait crossed_run (record { waits = both_wait; settled = both_settled; early = λ end. ended (both_at_wait.at 0) (length (lines_of crossed 0)) refl refl (end 0) })
+crossed_barriers_may_stall never =
+    never two refl both_at_wait crossed_run
+    (record { waits = both_wait; settled = both_settled; early = λ end. ended (both_at_wait.at 0) (length (lines_of crossed 0)) refl refl (end 0) })
   where
     ended : (a b : ℕ) → a ≡ 1 → b ≡ 4 → a ≡ b → ⊥
     ended a b x y e = absurd (omega arith)
@@ -298,10 +323,12 @@ inits_wait rank c get = go (cases_eq rank 0) (cases_eq rank 1)
     go : (rank ≡ 0) ⊎ (rank ≡ 0 → ⊥) → (rank ≡ 1) ⊎ (rank ≡ 1 → ⊥) → Waits two (lines_of inits) beginning rank c
     go (inl x) y =
         let is : Init 0 barrier ≡ c = same_Some (Init 0 barrier) c (ap (λ r. slice_get (lines_of inits r) 0) (sym x) ∙ get) in
-        subst (λ r. Waits two (lines_of inits) beginning r c) (sym x) (subst (Waits two (lines_of inits) beginning 0) is (stalls.init 0 barrier 1 1 refl (below_zero 0)))
+        subst (λ r. Waits two (lines_of inits) beginning r c) (sym x)
+        (subst (Waits two (lines_of inits) beginning 0) is (stalls.init 0 barrier 1 1 refl (below_zero 0)))
     go (inr d) (inl x) =
         let is : Init 1 barrier ≡ c = same_Some (Init 1 barrier) c (ap (λ r. slice_get (lines_of inits r) 0) (sym x) ∙ get) in
-        subst (λ r. Waits two (lines_of inits) beginning r c) (sym x) (subst (Waits two (lines_of inits) beginning 1) is (stalls.init 1 barrier 0 0 refl (below_zero 0)))
+        subst (λ r. Waits two (lines_of inits) beginning r c) (sym x)
+        (subst (Waits two (lines_of inits) beginning 1) is (stalls.init 1 barrier 0 0 refl (below_zero 0)))
     go (inr d) (inr b) =
         let none : ltb rank 2 ≡ false = le-ltb rank 2 (omega arith) in
         absurd (none-some c (rw none at get))

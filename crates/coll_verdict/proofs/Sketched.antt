@@ -37,7 +37,8 @@ pub record Grows (j k : Sketch) : Type 0 where
   pub starts : (q : ℕ) → q < j.made → j.starts q ≤ k.starts q
 
 pub same_grows : (k : Sketch) → Grows k k
-same_grows k = record { made = omega arith; comm = λ q low. refl; place = λ q low. refl; sig = λ q low. refl; starts = λ q low. le_of (k.starts q) (k.starts q) refl }
+same_grows k =
+    record { made = omega arith; comm = λ q low. refl; place = λ q low. refl; sig = λ q low. refl; starts = λ q low. le_of (k.starts q) (k.starts q) refl }
 
 pub grows_on : (j k l : Sketch) → Grows j k → Grows k l → Grows j l
 grows_on j k l a b = record {
@@ -68,10 +69,12 @@ pub starting_grows : (k : Sketch) (q : ℕ) → Grows k (starting k q)
 starting_grows k q = record { made = omega arith; comm = λ p low. refl; place = λ p low. refl; sig = λ p low. refl; starts = λ p low. counted k.starts q p }
 
 pub naming_grows : (k : Sketch) (qs : List ℕ) → Grows k (naming k qs)
-naming_grows k qs = record { made = omega arith; comm = λ q low. refl; place = λ q low. refl; sig = λ q low. refl; starts = λ q low. le_of (k.starts q) (k.starts q) refl }
+naming_grows k qs =
+    record { made = omega arith; comm = λ q low. refl; place = λ q low. refl; sig = λ q low. refl; starts = λ q low. le_of (k.starts q) (k.starts q) refl }
 
 pub resting_grows : (k : Sketch) (qs : List ℕ) → Grows k (resting k qs)
-resting_grows k qs = record { made = omega arith; comm = λ q low. refl; place = λ q low. refl; sig = λ q low. refl; starts = λ q low. le_of (k.starts q) (k.starts q) refl }
+resting_grows k qs =
+    record { made = omega arith; comm = λ q low. refl; place = λ q low. refl; sig = λ q low. refl; starts = λ q low. le_of (k.starts q) (k.starts q) refl }
 
 pub sketched_grows : (c : Command) (k : Sketch) → Grows k (sketched c k)
 sketched_grows (Post comm sig given) k = making_grows k comm sig 1

@@ -1,5 +1,6 @@
 -- What is kept of a rank's requests goes on to be what its commands say.
-use Rattle.std.proofs.Common.{◌≡◌, ℕ, suc, ◌+◌, ◌<◌, ◌≤◌, ◌||◌, ◌⊎◌, inl, inr, Bool, true, false, cond, eqb, List, [], ◌∷◌, ◌++◌, length, set, get_or, count_by, Option, Some, None, refl, sym, ap, subst, ◌∙◌, arith, eq-eqb, ne_eqb, length-set}
+use Rattle.std.proofs.Common.{◌≡◌, ℕ, suc, ◌+◌, ◌<◌, ◌≤◌, ◌||◌, ◌⊎◌, inl, inr, Bool, true, false, cond, eqb, List, [], ◌∷◌, ◌++◌, length, set, get_or}
+use Rattle.std.proofs.Common.{count_by, Option, Some, None, refl, sym, ap, subst, ◌∙◌, arith, eq-eqb, ne_eqb, length-set}
 use Rattle.std.proofs.lemmas.Option.{slice_get_within}
 use Rattle.std.specs.Prelude.{slice_get, IfSome}
 use Rattle.coll_kinds.specs.declared.signature.Signature.{Signature}
@@ -16,7 +17,8 @@ pub is_blank : IsSketch [] blank
 is_blank = record { made = refl; posted = λ comm. refl; each = λ q. tt }
 
 abbrev pub new_sketched : List KnownRequest → ℕ → Signature → ℕ → KnownRequest
-new_sketched xs comm sig starts = record { comm = comm; place = count_by (λ x. eqb x.comm comm) xs; sig = sig; starts = starts; is_rested = false; is_named = false }
+new_sketched xs comm sig starts =
+    record { comm = comm; place = count_by (λ x. eqb x.comm comm) xs; sig = sig; starts = starts; is_rested = false; is_named = false }
 
 one_more_is : (n m c d : ℕ) (b : Bool) → n ≡ m → d ≡ suc m → b ≡ true → c ≡ n + cond b 1 0 → c ≡ d
 one_more_is n m c d true e f is h = omega arith
@@ -26,16 +28,29 @@ no_more_is : (n m c d : ℕ) (b : Bool) → n ≡ m → d ≡ m → b ≡ false 
 no_more_is n m c d false e f is h = omega arith
 no_more_is n m c d true e f is h = absurd cc
 
-pub is_made : (xs : List KnownRequest) (k : Sketch) (comm : ℕ) (sig : Signature) (starts : ℕ) → IsSketch xs k → IsSketch (xs ++ new_sketched xs comm sig starts ∷ []) (making k comm sig starts)
-is_made xs k comm sig starts s = record { made = length_pushed xs (new_sketched xs comm sig starts) ∙ ap suc s.made; posted = counted; each = λ q. each q (slice_get (xs ++ new_sketched xs comm sig starts ∷ []) q) refl }
+pub is_made : (xs : List KnownRequest) (k : Sketch) (comm : ℕ) (sig : Signature) (starts : ℕ) → IsSketch xs k
+    → IsSketch (xs ++ new_sketched xs comm sig starts ∷ []) (making k comm sig starts)
+is_made xs k comm sig starts s =
+    record {
+      made = length_pushed xs (new_sketched xs comm sig starts) ∙ ap suc s.made;
+      posted = counted;
+      each =
+          λ q. each q (slice_get (xs ++ new_sketched xs comm sig starts ∷ []) q) refl;
+    }
   where
     counted : (c : ℕ) → count_by (λ x. eqb x.comm c) (xs ++ new_sketched xs comm sig starts ∷ []) ≡ (making k comm sig starts).posted c
     counted c = go (put_cases k.posted comm (suc (k.posted comm)) c)
       where
-        go : ((c ≡ comm) × (put k.posted comm (suc (k.posted comm)) c ≡ suc (k.posted comm))) ⊎ ((c ≡ comm → ⊥) × (put k.posted comm (suc (k.posted comm)) c ≡ k.posted c))
+        go : ((c ≡ comm) × (put k.posted comm (suc (k.posted comm)) c ≡ suc (k.posted comm)))
+            ⊎ ((c ≡ comm → ⊥) × (put k.posted comm (suc (k.posted comm)) c ≡ k.posted c))
             → count_by (λ x. eqb x.comm c) (xs ++ new_sketched xs comm sig starts ∷ []) ≡ (making k comm sig starts).posted c
-        go (inl a) = one_more_is (count_by (λ x. eqb x.comm c) xs) (k.posted c) _ (put k.posted comm (suc (k.posted comm)) c) (eqb comm c) (s.posted c) (a.1 ∙ ap (λ c. suc (k.posted c)) (sym a.0)) (eq-eqb comm c (sym a.0)) (count_pushed (λ x. eqb x.comm c) xs (new_sketched xs comm sig starts))
-        go (inr a) = no_more_is (count_by (λ x. eqb x.comm c) xs) (k.posted c) _ (put k.posted comm (suc (k.posted comm)) c) (eqb comm c) (s.posted c) a.1 (ne_eqb comm c (λ e. a.0 (sym e))) (count_pushed (λ x. eqb x.comm c) xs (new_sketched xs comm sig starts))
+        go (inl a) =
+            one_more_is (count_by (λ x. eqb x.comm c) xs) (k.posted c) _ (put k.posted comm (suc (k.posted comm)) c) (eqb comm c)
+            (s.posted c) (a.1 ∙ ap (λ c. suc (k.posted c)) (sym a.0)) (eq-eqb comm c (sym a.0))
+            (count_pushed (λ x. eqb x.comm c) xs (new_sketched xs comm sig starts))
+        go (inr a) =
+            no_more_is (count_by (λ x. eqb x.comm c) xs) (k.posted c) _ (put k.posted comm (suc (k.posted comm)) c) (eqb comm c)
+            (s.posted c) a.1 (ne_eqb comm c (λ e. a.0 (sym e))) (count_pushed (λ x. eqb x.comm c) xs (new_sketched xs comm sig starts))
 
     new : (q : ℕ) → q ≡ k.made → IsKnown (making k comm sig starts) q (new_sketched xs comm sig starts)
     new q e = record {
@@ -65,8 +80,16 @@ is_made xs k comm sig starts s = record { made = length_pushed xs (new_sketched 
         go (inl h) = old q x (subst (λ n. q < n) s.made (slice_get_within xs q x h)) (some_at (IsKnown k q) (slice_get xs q) x (s.each q) h)
         go (inr h) = subst (IsKnown (making k comm sig starts) q) h.1 (new q (h.0 ∙ s.made))
 
-pub is_started : (xs : List KnownRequest) (k : Sketch) (q : ℕ) (x y : KnownRequest) → IsSketch xs k → slice_get xs q ≡ Some x → y ≡ record x { starts = suc x.starts; is_rested = false; is_named = false } → length (set xs q y) ≡ length xs → IsSketch (set xs q y) (starting k q)
-is_started xs k q x y s some is len = record { made = len ∙ s.made; posted = λ c. count_changed (λ x. eqb x.comm c) xs q x y some (ap (λ (t : KnownRequest). eqb t.comm c) is) ∙ s.posted c; each = λ i. each i (slice_get (set xs q y) i) refl }
+pub is_started : (xs : List KnownRequest) (k : Sketch) (q : ℕ) (x y : KnownRequest) → IsSketch xs k → slice_get xs q ≡ Some x
+    → y ≡ record x { starts = suc x.starts; is_rested = false; is_named = false } → length (set xs q y) ≡ length xs → IsSketch (set xs q y) (starting k q)
+is_started xs k q x y s some is len =
+    record {
+      made = len ∙ s.made;
+      posted =
+          λ c. count_changed (λ x. eqb x.comm c) xs q x y some (ap (λ (t : KnownRequest). eqb t.comm c) is) ∙ s.posted c;
+      each =
+          λ i. each i (slice_get (set xs q y) i) refl;
+    }
   where
     here : IsKnown k q x
     here = some_at (IsKnown k q) (slice_get xs q) x (s.each q) some
@@ -100,9 +123,11 @@ is_started xs k q x y s some is len = record { made = len ∙ s.made; posted = �
         go (inr a) = old i z a.0 (some_at (IsKnown k i) (slice_get xs i) z (s.each i) a.1)
 
 -- the change that a start makes
-pub started_at : (xs : List KnownRequest) (k : Sketch) (q : ℕ) (x : KnownRequest) → q < length xs → x ≡ get_or xs q x → IsSketch xs k → IsSketch (set xs q (record x { starts = x.starts + 1; is_rested = false; is_named = false })) (starting k q)
+pub started_at : (xs : List KnownRequest) (k : Sketch) (q : ℕ) (x : KnownRequest) → q < length xs → x ≡ get_or xs q x
+    → IsSketch xs k → IsSketch (set xs q (record x { starts = x.starts + 1; is_rested = false; is_named = false })) (starting k q)
 started_at xs k q x low is s =
-    is_started xs k q x (record x { starts = x.starts + 1; is_rested = false; is_named = false }) s (get_at xs q x low ∙ ap Some (sym is)) (ap (λ (n : ℕ). record x { starts = n; is_rested = false; is_named = false }) (next x.starts))
+    is_started xs k q x (record x { starts = x.starts + 1; is_rested = false; is_named = false }) s
+    (get_at xs q x low ∙ ap Some (sym is)) (ap (λ (n : ℕ). record x { starts = n; is_rested = false; is_named = false }) (next x.starts))
     (length-set xs q (record x { starts = x.starts + 1; is_rested = false; is_named = false }))
   where
     next : (n : ℕ) → n + 1 ≡ suc n
@@ -130,7 +155,8 @@ not_one i q d = rw (ne_eqb q i (λ e. d (sym e))) refl
 is_one : (q : ℕ) → is_among q (q ∷ []) ≡ true
 is_one q = rw (eq-eqb q q refl) refl
 
-renamed : (xs : List KnownRequest) (k : Sketch) (ys : List KnownRequest) (qs : List ℕ) → IsSketch xs k → length ys ≡ length xs → ((c : ℕ) → count_by (λ x. eqb x.comm c) ys ≡ count_by (λ x. eqb x.comm c) xs)
+renamed : (xs : List KnownRequest) (k : Sketch) (ys : List KnownRequest) (qs : List ℕ) → IsSketch xs k → length ys ≡ length xs
+    → ((c : ℕ) → count_by (λ x. eqb x.comm c) ys ≡ count_by (λ x. eqb x.comm c) xs)
     → ((i : ℕ) (z : KnownRequest) → slice_get ys i ≡ Some z → IsKnown (naming k qs) i z) → IsSketch ys (naming k qs)
 renamed xs k ys qs s len count each = record { made = len ∙ s.made; posted = λ c. count c ∙ s.posted c; each = λ i. go i (slice_get ys i) refl }
   where
@@ -148,8 +174,11 @@ still_named k qs i z other t = record {
   named = unnamed_still (k.named i) (is_among i qs) other ∙ t.named;
 }
 
-is_named : (xs : List KnownRequest) (k : Sketch) (q : ℕ) (x y : KnownRequest) → IsSketch xs k → slice_get xs q ≡ Some x → y ≡ record x { is_named = true } → length (set xs q y) ≡ length xs → IsSketch (set xs q y) (naming k (q ∷ []))
-is_named xs k q x y s some is len = renamed xs k (set xs q y) (q ∷ []) s len (λ c. count_changed (λ x. eqb x.comm c) xs q x y some (ap (λ (t : KnownRequest). eqb t.comm c) is)) (λ i z e. go i z (get_changed xs q y i z e))
+is_named : (xs : List KnownRequest) (k : Sketch) (q : ℕ) (x y : KnownRequest) → IsSketch xs k → slice_get xs q ≡ Some x
+    → y ≡ record x { is_named = true } → length (set xs q y) ≡ length xs → IsSketch (set xs q y) (naming k (q ∷ []))
+is_named xs k q x y s some is len =
+    renamed xs k (set xs q y) (q ∷ []) s len
+    (λ c. count_changed (λ x. eqb x.comm c) xs q x y some (ap (λ (t : KnownRequest). eqb t.comm c) is)) (λ i z e. go i z (get_changed xs q y i z e))
   where
     here : IsKnown k q x
     here = some_at (IsKnown k q) (slice_get xs q) x (s.each q) some
@@ -169,7 +198,9 @@ is_named xs k q x y s some is len = renamed xs k (set xs q y) (q ∷ []) s len (
     go i z (inr a) = still_named k (q ∷ []) i z (not_one i q a.0) (some_at (IsKnown k i) (slice_get xs i) z (s.each i) a.1)
 
 pub is_named_beyond : (xs : List KnownRequest) (k : Sketch) (q : ℕ) → IsSketch xs k → length xs ≤ q → IsSketch xs (naming k (q ∷ []))
-is_named_beyond xs k q s far = renamed xs k xs (q ∷ []) s refl (λ c. refl) (λ i z e. still_named k (q ∷ []) i z (not_one i q (other i z e)) (some_at (IsKnown k i) (slice_get xs i) z (s.each i) e))
+is_named_beyond xs k q s far =
+    renamed xs k xs (q ∷ []) s refl (λ c. refl)
+    (λ i z e. still_named k (q ∷ []) i z (not_one i q (other i z e)) (some_at (IsKnown k i) (slice_get xs i) z (s.each i) e))
   where
     other : (i : ℕ) (z : KnownRequest) → slice_get xs i ≡ Some z → i ≡ q → ⊥
     other i z e same = let low : i < length xs = slice_get_within xs i z e in absurd (omega arith)
@@ -178,21 +209,34 @@ pub is_unnamed : (xs : List KnownRequest) (k : Sketch) → IsSketch xs k → IsS
 is_unnamed xs k s = renamed xs k xs [] s refl (λ c. refl) (λ i z e. still_named k [] i z refl (some_at (IsKnown k i) (slice_get xs i) z (s.each i) e))
 
 -- one after the other is all together
-pub is_named_more : (xs : List KnownRequest) (k : Sketch) (qs rs : List ℕ) (q : ℕ) → ((i : ℕ) → is_among i rs ≡ (is_among i qs || eqb q i)) → IsSketch xs (naming (naming k qs) (q ∷ [])) → IsSketch xs (naming k rs)
+pub is_named_more : (xs : List KnownRequest) (k : Sketch) (qs rs : List ℕ) (q : ℕ)
+    → ((i : ℕ) → is_among i rs ≡ (is_among i qs || eqb q i)) → IsSketch xs (naming (naming k qs) (q ∷ [])) → IsSketch xs (naming k rs)
 is_named_more xs k qs rs q all s = record { made = s.made; posted = s.posted; each = λ i. go i (slice_get xs i) (s.each i) }
   where
     go : (i : ℕ) (o : Option KnownRequest) → IfSome o (IsKnown (naming (naming k qs) (q ∷ [])) i) → IfSome o (IsKnown (naming k rs) i)
     go i None h = tt
-    go i (Some z) h = record { comm = h.comm; place = h.place; sig = h.sig; starts = h.starts; rested = h.rested; named = named_in_turn (k.named i) (is_among i qs) (eqb q i) (is_among i rs) (all i) ∙ h.named }
+    go i (Some z) h =
+        record {
+          comm = h.comm;
+          place = h.place;
+          sig = h.sig;
+          starts = h.starts;
+          rested = h.rested;
+          named =
+              named_in_turn (k.named i) (is_among i qs) (eqb q i) (is_among i rs) (all i) ∙ h.named;
+        }
 
 -- the change that a call makes to one
-pub named_at : (xs : List KnownRequest) (k : Sketch) (q : ℕ) (x : KnownRequest) → q < length xs → x ≡ get_or xs q x → IsSketch xs k → IsSketch (set xs q (record x { is_named = true })) (naming k (q ∷ []))
-named_at xs k q x low is s = is_named xs k q x (record x { is_named = true }) s (get_at xs q x low ∙ ap Some (sym is)) refl (length-set xs q (record x { is_named = true }))
+pub named_at : (xs : List KnownRequest) (k : Sketch) (q : ℕ) (x : KnownRequest) → q < length xs → x ≡ get_or xs q x
+    → IsSketch xs k → IsSketch (set xs q (record x { is_named = true })) (naming k (q ∷ []))
+named_at xs k q x low is s =
+    is_named xs k q x (record x { is_named = true }) s (get_at xs q x low ∙ ap Some (sym is)) refl (length-set xs q (record x { is_named = true }))
 
 -- ---- requests that have been waited for
 
 -- the sketch is read at each request
-resketched : (xs : List KnownRequest) (k : Sketch) (ys : List KnownRequest) (qs : List ℕ) → IsSketch xs k → length ys ≡ length xs → ((c : ℕ) → count_by (λ x. eqb x.comm c) ys ≡ count_by (λ x. eqb x.comm c) xs)
+resketched : (xs : List KnownRequest) (k : Sketch) (ys : List KnownRequest) (qs : List ℕ) → IsSketch xs k → length ys ≡ length xs
+    → ((c : ℕ) → count_by (λ x. eqb x.comm c) ys ≡ count_by (λ x. eqb x.comm c) xs)
     → ((i : ℕ) (z : KnownRequest) → slice_get ys i ≡ Some z → IsKnown (resting k qs) i z) → IsSketch ys (resting k qs)
 resketched xs k ys qs s len count each = record { made = len ∙ s.made; posted = λ c. count c ∙ s.posted c; each = λ i. go i (slice_get ys i) refl }
   where
@@ -210,8 +254,11 @@ still_sketched k qs i z other t = record {
   named = unnamed_still (k.named i) (is_among i qs) other ∙ t.named;
 }
 
-pub is_rested : (xs : List KnownRequest) (k : Sketch) (q : ℕ) (x y : KnownRequest) → IsSketch xs k → slice_get xs q ≡ Some x → y ≡ record x { is_rested = true; is_named = true } → length (set xs q y) ≡ length xs → IsSketch (set xs q y) (resting k (q ∷ []))
-is_rested xs k q x y s some is len = resketched xs k (set xs q y) (q ∷ []) s len (λ c. count_changed (λ x. eqb x.comm c) xs q x y some (ap (λ (t : KnownRequest). eqb t.comm c) is)) (λ i z e. go i z (get_changed xs q y i z e))
+pub is_rested : (xs : List KnownRequest) (k : Sketch) (q : ℕ) (x y : KnownRequest) → IsSketch xs k → slice_get xs q ≡ Some x
+    → y ≡ record x { is_rested = true; is_named = true } → length (set xs q y) ≡ length xs → IsSketch (set xs q y) (resting k (q ∷ []))
+is_rested xs k q x y s some is len =
+    resketched xs k (set xs q y) (q ∷ []) s len
+    (λ c. count_changed (λ x. eqb x.comm c) xs q x y some (ap (λ (t : KnownRequest). eqb t.comm c) is)) (λ i z e. go i z (get_changed xs q y i z e))
   where
     here : IsKnown k q x
     here = some_at (IsKnown k q) (slice_get xs q) x (s.each q) some
@@ -231,7 +278,9 @@ is_rested xs k q x y s some is len = resketched xs k (set xs q y) (q ∷ []) s l
     go i z (inr a) = still_sketched k (q ∷ []) i z (not_one i q a.0) (some_at (IsKnown k i) (slice_get xs i) z (s.each i) a.1)
 
 pub is_beyond : (xs : List KnownRequest) (k : Sketch) (q : ℕ) → IsSketch xs k → length xs ≤ q → IsSketch xs (resting k (q ∷ []))
-is_beyond xs k q s far = resketched xs k xs (q ∷ []) s refl (λ c. refl) (λ i z e. still_sketched k (q ∷ []) i z (not_one i q (other i z e)) (some_at (IsKnown k i) (slice_get xs i) z (s.each i) e))
+is_beyond xs k q s far =
+    resketched xs k xs (q ∷ []) s refl (λ c. refl)
+    (λ i z e. still_sketched k (q ∷ []) i z (not_one i q (other i z e)) (some_at (IsKnown k i) (slice_get xs i) z (s.each i) e))
   where
     other : (i : ℕ) (z : KnownRequest) → slice_get xs i ≡ Some z → i ≡ q → ⊥
     other i z e same = let low : i < length xs = slice_get_within xs i z e in absurd (omega arith)
@@ -240,13 +289,27 @@ pub is_unrested : (xs : List KnownRequest) (k : Sketch) → IsSketch xs k → Is
 is_unrested xs k s = resketched xs k xs [] s refl (λ c. refl) (λ i z e. still_sketched k [] i z refl (some_at (IsKnown k i) (slice_get xs i) z (s.each i) e))
 
 -- one after the other is all together
-pub is_rested_more : (xs : List KnownRequest) (k : Sketch) (qs rs : List ℕ) (q : ℕ) → ((i : ℕ) → is_among i rs ≡ (is_among i qs || eqb q i)) → IsSketch xs (resting (resting k qs) (q ∷ [])) → IsSketch xs (resting k rs)
+pub is_rested_more : (xs : List KnownRequest) (k : Sketch) (qs rs : List ℕ) (q : ℕ)
+    → ((i : ℕ) → is_among i rs ≡ (is_among i qs || eqb q i)) → IsSketch xs (resting (resting k qs) (q ∷ [])) → IsSketch xs (resting k rs)
 is_rested_more xs k qs rs q all s = record { made = s.made; posted = s.posted; each = λ i. go i (slice_get xs i) (s.each i) }
   where
     go : (i : ℕ) (o : Option KnownRequest) → IfSome o (IsKnown (resting (resting k qs) (q ∷ [])) i) → IfSome o (IsKnown (resting k rs) i)
     go i None h = tt
-    go i (Some z) h = record { comm = h.comm; place = h.place; sig = h.sig; starts = h.starts; rested = named_in_turn (k.rested i) (is_among i qs) (eqb q i) (is_among i rs) (all i) ∙ h.rested; named = named_in_turn (k.named i) (is_among i qs) (eqb q i) (is_among i rs) (all i) ∙ h.named }
+    go i (Some z) h =
+        record {
+          comm = h.comm;
+          place = h.place;
+          sig = h.sig;
+          starts = h.starts;
+          rested =
+              named_in_turn (k.rested i) (is_among i qs) (eqb q i) (is_among i rs) (all i) ∙ h.rested;
+          named =
+              named_in_turn (k.named i) (is_among i qs) (eqb q i) (is_among i rs) (all i) ∙ h.named;
+        }
 
 -- the change that a wait makes
-pub rested_at : (xs : List KnownRequest) (k : Sketch) (q : ℕ) (x : KnownRequest) → q < length xs → x ≡ get_or xs q x → IsSketch xs k → IsSketch (set xs q (record x { is_rested = true; is_named = true })) (resting k (q ∷ []))
-rested_at xs k q x low is s = is_rested xs k q x (record x { is_rested = true; is_named = true }) s (get_at xs q x low ∙ ap Some (sym is)) refl (length-set xs q (record x { is_rested = true; is_named = true }))
+pub rested_at : (xs : List KnownRequest) (k : Sketch) (q : ℕ) (x : KnownRequest) → q < length xs → x ≡ get_or xs q x
+    → IsSketch xs k → IsSketch (set xs q (record x { is_rested = true; is_named = true })) (resting k (q ∷ []))
+rested_at xs k q x low is s =
+    is_rested xs k q x (record x { is_rested = true; is_named = true }) s (get_at xs q x low ∙ ap Some (sym is)) refl
+    (length-set xs q (record x { is_rested = true; is_named = true }))

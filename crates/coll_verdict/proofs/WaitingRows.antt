@@ -1,5 +1,6 @@
 -- The worked rows, with a library of which it is known for whom its requests wait.
-use Rattle.std.proofs.Common.{◌≡◌, ℕ, suc, ◌<◌, ◌⊎◌, inl, inr, Bool, true, false, ltb, eqb, ◌||◌, List, [], ◌∷◌, length, Some, None, refl, sym, ap, subst, ◌∙◌, arith, eqb-true, le-ltb}
+use Rattle.std.proofs.Common.{◌≡◌, ℕ, suc, ◌<◌, ◌⊎◌, inl, inr, Bool, true, false, ltb, eqb, ◌||◌, List, [], ◌∷◌, length, Some, None, refl, sym, ap}
+use Rattle.std.proofs.Common.{subst, ◌∙◌, arith, eqb-true, le-ltb}
 use Rattle.std.proofs.lemmas.Bool.{cases_eq, false≢true}
 use Rattle.std.proofs.lemmas.Option.{none-some, same_Some}
 use Rattle.std.specs.Prelude.{slice_get}
@@ -16,9 +17,12 @@ use Rattle.coll_verdict.specs.Passes.{only, IsFree, Passes}
 use Rattle.coll_verdict.specs.Passes as passes
 use Rattle.coll_verdict.specs.Waiting.{Hearing, ReachesBy}
 use Rattle.coll_verdict.specs.Waiting as waiting
-use Rattle.coll_verdict.specs.Rows.{lone, one_rank, only_ticket, only_request, done, left, crossed, inits, LoneBarrierEndsBy, LoneBarrierNeverStallsBy, CrossedBarriersStallBy, CrossedBarriersMayStallBy, CrossedInitsNeverStallBy}
+use Rattle.coll_verdict.specs.Rows.{lone, one_rank, only_ticket, only_request, done, left, crossed, inits, LoneBarrierEndsBy}
+use Rattle.coll_verdict.specs.Rows.{LoneBarrierNeverStallsBy, CrossedBarriersStallBy, CrossedBarriersMayStallBy, CrossedInitsNeverStallBy}
 use Rattle.coll_verdict.proofs.Passing.{passes_dont_stall_by, always_is_always_by, never_is_never_by}
-use Rattle.coll_verdict.proofs.Rows.{below_one, among_zero, posts, needed_all, given_all, leaves, held_last, has_left, lone_end, crossed_barriers_stall, two, first_ticket, second_ticket, first_posts, second_posts, both_posted, both_at_wait, both_wait}
+use Rattle.coll_verdict.proofs.Rows.{below_one, among_zero, posts, needed_all, given_all, leaves, held_last, has_left, lone_end}
+use Rattle.coll_verdict.proofs.Rows.{crossed_barriers_stall, two, first_ticket, second_ticket, first_posts, second_posts, both_posted, both_at_wait}
+use Rattle.coll_verdict.proofs.Rows.{both_wait}
 use Rattle.coll_verdict.proofs.LastRows.{lone_barrier_never_stalls, next_is, no_finish}
 
 lone_run_by : (hears : Hearing) → ReachesBy hears one_rank (lines_of lone) has_left
@@ -57,7 +61,9 @@ pub crossed_barriers_may_stall_by : CrossedBarriersMayStallBy
 crossed_barriers_may_stall_by hears never = never two refl both_at_wait (crossed_run_by hears) (record {
   waits = both_wait;
   returns = λ rank comm sig get. no_init rank comm sig get;
-  settled = λ slot start q sig is has. absurd (no_finish slot (put both_posted.done slot true) (record { request = q; sig = sig; start = start; is = is; pending = refl; ready = has.ready; leaves = refl }));
+  settled = λ slot start q sig is has. absurd
+      (no_finish slot (put both_posted.done slot true)
+      (record { request = q; sig = sig; start = start; is = is; pending = refl; ready = has.ready; leaves = refl }));
   early = λ end. ended (both_at_wait.at 0) (length (lines_of crossed 0)) refl refl (end 0);
 })
   where
@@ -112,7 +118,8 @@ inits_end rank = go (cases_eq rank 0) (cases_eq rank 1)
     go (inr d) (inr b) =
         let none : ltb rank 2 ≡ false = le-ltb rank 2 (omega arith) in
         put_other (put (put first_end 1 1) 1 2) 1 3 rank b ∙ (put_other (put first_end 1 1) 1 2 rank b ∙ (put_other first_end 1 1 rank b
-        ∙ (put_other (put (put at_beginning 0 1) 0 2) 0 3 rank d ∙ (put_other (put at_beginning 0 1) 0 2 rank d ∙ (put_other at_beginning 0 1 rank d ∙ rw none refl)))))
+        ∙ (put_other (put (put at_beginning 0 1) 0 2) 0 3 rank d
+        ∙ (put_other (put at_beginning 0 1) 0 2 rank d ∙ (put_other at_beginning 0 1 rank d ∙ rw none refl)))))
 
 pub crossed_inits_never_stall_by : CrossedInitsNeverStallBy
 crossed_inits_never_stall_by hears g e = passes_dont_stall_by hears g (lines_of inits) both_end (inits_pass hears g) inits_end

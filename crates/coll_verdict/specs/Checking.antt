@@ -1,5 +1,6 @@
 -- The tests that the checker makes, each as a function of what is kept of the ranks.
-use Rattle.std.specs.Prelude.{ℕ, ◌-◌, ◌==◌, nat_lt, nat_le, Bool, true, false, not, ◌&&◌, ◌||◌, if◌then◌else◌, List, length, count_by, Option, Some, None, Vec, slice_get}
+use Rattle.std.specs.Prelude.{ℕ, ◌-◌, ◌==◌, nat_lt, nat_le, Bool, true, false, not, ◌&&◌, ◌||◌, if◌then◌else◌, List, length, count_by, Option, Some}
+use Rattle.std.specs.Prelude.{None, Vec, slice_get}
 use Rattle.std.specs.List.{list_any, list_all, range_with_len}
 use Rattle.std.specs.Global.{Global}
 use Rattle.coll_kinds.specs.declared.signature.Signature.{Signature}

@@ -67,7 +67,8 @@ pub record HasSure (hears : Hearing) (g : Setting) (k : ℕ → Sketch) (rank : 
 
 -- each member of the communicator has come to the request that the rank makes there next
 abbrev pub AllCome : Setting → (ℕ → List Command) → (ℕ → ℕ) → ℕ → ℕ → Type 0
-AllCome g lines at rank comm = (peer member : ℕ) → member_of peer (group g comm) ≡ Some member → HasCome lines at peer comm (made_by comm (lines rank) (at rank))
+AllCome g lines at rank comm = (peer member : ℕ) → member_of peer (group g comm) ≡ Some member
+    → HasCome lines at peer comm (made_by comm (lines rank) (at rank))
 
 -- a wait for all of these goes on, and one for some
 abbrev pub AllFree : Hearing → Setting → (ℕ → Sketch) → ℕ → List ℕ → Type 0

@@ -2,7 +2,8 @@
 
 ghost use Rattle.std.specs.Prelude.{◌≡◌, length, slice_get};
 ghost use Rattle.std.specs.List.{list_any, list_all, range_with_len};
-ghost use Rattle.coll_verdict.specs.Checking.{all_stay, awaited_at, cant_at, is_held_up, is_late, is_short, lacks, lacks_by, lacks_heard, lacks_member, lacks_some, lacks_told, late_at, peer_is_late, rank_stays, size_in, waits};
+ghost use Rattle.coll_verdict.specs.Checking.{all_stay, awaited_at, cant_at, is_held_up, is_late, is_short, lacks, lacks_by, lacks_heard};
+ghost use Rattle.coll_verdict.specs.Checking.{lacks_member, lacks_some, lacks_told, late_at, peer_is_late, rank_stays, size_in, waits};
 
 use crate::known::KnownRequest;
 use crate::library::{HeardRows, Library};

@@ -81,7 +81,9 @@ fn make(
     sig: Signature,
     starts: usize,
 ) -> Result<(), AllocError>
-    ensures { OnOk result (requests.new.items ≡ requests.old.items ++ record { comm = comm; place = count_by (λ x. x.comm == comm) requests.old.items; sig = sig; starts = starts; is_rested = false; is_named = false } ∷ []) }
+    ensures { OnOk result (requests.new.items ≡ requests.old.items
+        ++ record { comm = comm; place = count_by (λ x. x.comm == comm) requests.old.items; sig = sig; starts = starts; is_rested = false; is_named = false }
+        ∷ []) }
 {
     let place = place_on(requests, comm);
     requests.push(KnownRequest {

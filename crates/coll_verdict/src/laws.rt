@@ -2,8 +2,11 @@
 //! theorem.
 
 ghost use Rattle.coll_verdict.specs.Lasts.{EndsAtLast, LastIsStalled, StallsAtLast};
-ghost use Rattle.coll_verdict.specs.Laws.{AlwaysIsAlwaysBy, ClosedStandsStall, ClosedStandsStallBy, EmptyJobEnds, NeverIsNeverBy, PassesDontStall, PassesDontStallBy};
-ghost use Rattle.coll_verdict.specs.Rows.{CrossedBarriersMayStall, CrossedBarriersMayStallBy, CrossedBarriersStall, CrossedBarriersStallBy, CrossedEmptiesMayEnd, CrossedInitsMayStall, CrossedInitsNeverStallBy, CrossedRunIsLast, LoneBarrierEnds, LoneBarrierEndsBy, LoneBarrierNeverStalls, LoneBarrierNeverStallsBy};
+ghost use Rattle.coll_verdict.specs.Laws.{AlwaysIsAlwaysBy, ClosedStandsStall, ClosedStandsStallBy, EmptyJobEnds, NeverIsNeverBy, PassesDontStall};
+ghost use Rattle.coll_verdict.specs.Laws.{PassesDontStallBy};
+ghost use Rattle.coll_verdict.specs.Rows.{CrossedBarriersMayStall, CrossedBarriersMayStallBy, CrossedBarriersStall, CrossedBarriersStallBy};
+ghost use Rattle.coll_verdict.specs.Rows.{CrossedEmptiesMayEnd, CrossedInitsMayStall, CrossedInitsNeverStallBy, CrossedRunIsLast, LoneBarrierEnds};
+ghost use Rattle.coll_verdict.specs.Rows.{LoneBarrierEndsBy, LoneBarrierNeverStalls, LoneBarrierNeverStallsBy};
 
 /// No run goes beyond a closed frontier. So no run ends if a rank of the frontier is short of its
 /// end.

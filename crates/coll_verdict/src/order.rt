@@ -4,7 +4,10 @@ ghost use Rattle.std.specs.Prelude.{◌≡◌, true, IsTrue, IfOk, Some, count_b
 ghost use Rattle.std.specs.List.{list_any, list_all, range_with_len};
 ghost use Rattle.coll_parser.specs.Code.{rows_view};
 ghost use Rattle.coll_parser.specs.Histories.{History};
-ghost use Rattle.coll_verdict.specs.Checking.{all_come, apart_at, are_apart, begun_as, can_pass, free_at, has_come, has_made, has_made_before, has_seat, init_returns, is_at_beginning, is_at_end, is_come, is_joined, is_seat, joined_by, joined_heard, joined_member, joined_told, made_as, member_has_begun, next_can_pass, peer_has_begun, peer_is_come, sure_at};
+ghost use Rattle.coll_verdict.specs.Checking.{all_come, apart_at, are_apart, begun_as, can_pass, free_at, has_come, has_made, has_made_before};
+ghost use Rattle.coll_verdict.specs.Checking.{has_seat, init_returns, is_at_beginning, is_at_end, is_come, is_joined, is_seat, joined_by};
+ghost use Rattle.coll_verdict.specs.Checking.{joined_heard, joined_member, joined_told, made_as, member_has_begun, next_can_pass, peer_has_begun};
+ghost use Rattle.coll_verdict.specs.Checking.{peer_is_come, sure_at};
 ghost use Rattle.coll_verdict.specs.Stalls.{makes_in, makes_on};
 ghost use Rattle.coll_verdict.specs.Code.{Advances, AreStood, IsAhead};
 
@@ -22,7 +25,8 @@ pub(crate) fn pass(
     groups: &[Vec<u8>],
     rank: u8,
 ) -> Result<bool, AllocError>
-    ensures { IfOk result (λ has_passed. IsTrue has_passed → (h : History) → AreStood h ranks.old.items → rows_view groups.now ≡ h.groups → are_apart groups.now ≡ true → Advances library.now h ranks.old.items ranks.new.items) }
+    ensures { IfOk result (λ has_passed. IsTrue has_passed → (h : History) → AreStood h ranks.old.items
+        → rows_view groups.now ≡ h.groups → are_apart groups.now ≡ true → Advances library.now h ranks.old.items ranks.new.items) }
 {
     if rank as usize >= ranks.len() {
         return Ok(false);

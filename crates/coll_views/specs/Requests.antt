@@ -1,5 +1,6 @@
 -- The requests of a trace: what it says of each, and which of them an entry is about.
-use Rattle.std.specs.Prelude.{ℕ, ◌==◌, Bool, ◌&&◌, List, [], length, map, filter_map, slice_get, slice_index_or, Option, Some, None, unwrap_or, option_and_then, if◌then◌else◌}
+use Rattle.std.specs.Prelude.{ℕ, ◌==◌, Bool, ◌&&◌, List, [], length, map, filter_map, slice_get, slice_index_or, Option, Some, None, unwrap_or}
+use Rattle.std.specs.Prelude.{option_and_then, if◌then◌else◌}
 use Rattle.std.specs.List.{position, range_with_len}
 use Rattle.std.specs.Option.{option_map}
 use Rattle.coll_kinds.specs.declared.signature.Signature.{Signature}

@@ -1,5 +1,6 @@
 -- The tables as text.
-use Rattle.std.specs.Prelude.{ℕ, ◌-◌, ◌==◌, Bool, ◌&&◌, List, [], ◌∷◌, ◌++◌, length, filter, flat_map, map, replicate, slice_index, slice_index_or, codes, if◌then◌else◌}
+use Rattle.std.specs.Prelude.{ℕ, ◌-◌, ◌==◌, Bool, ◌&&◌, List, [], ◌∷◌, ◌++◌, length, filter, flat_map, map, replicate, slice_index, slice_index_or}
+use Rattle.std.specs.Prelude.{codes, if◌then◌else◌}
 use Rattle.std.specs.List.{enumerate_from, fold, list_any, range_with_len}
 use Rattle.std.specs.Fmt.{decimal}
 use Rattle.coll_kinds.specs.declared.signature.Signature.{Signature}

@@ -6,7 +6,9 @@ ghost use Rattle.coll_kinds.specs.Sameness.{same_signature};
 ghost use Rattle.coll_report.specs.Views.{groups_seen};
 ghost use Rattle.coll_sched.specs.Families.{family_exchanges};
 ghost use Rattle.coll_plans.specs.Plans.{family};
-ghost use Rattle.coll_views.specs.Tables.{added_once, all_comm_lines, asked_on, by_collective, by_rank, collective_line, collectives_text, comm_lines, each_once, head_of_collectives, head_of_ranks, is_on, label_of, line_of, numbers_text, rank_line, rank_lines, ranks_text, rows_on, tables_text};
+ghost use Rattle.coll_views.specs.Tables.{added_once, all_comm_lines, asked_on, by_collective, by_rank, collective_line, collectives_text};
+ghost use Rattle.coll_views.specs.Tables.{comm_lines, each_once, head_of_collectives, head_of_ranks, is_on, label_of, line_of, numbers_text};
+ghost use Rattle.coll_views.specs.Tables.{rank_line, rank_lines, ranks_text, rows_on, tables_text};
 
 use crate::cell::{cells_of, print_aligned, print_cells};
 use crate::request::{RankRequests, TracedRequest};

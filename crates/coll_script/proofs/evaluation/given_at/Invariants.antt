@@ -8,4 +8,5 @@ use Rattle.coll_script.proofs.evaluation.given_at.Given as goal
 
 abbrev pub invariant-loop-list : goal.invariant-loop-list
 invariant-loop-list l =
-    rows_view l.rows.items ++ map (λ (list : List Request). given_by l.start (slice_get list l.place)) (drop l.list-index (lists_view l.lists)) ≡ given_at (lists_view l.lists) l.place l.start
+    rows_view l.rows.items ++ map (λ (list : List Request). given_by l.start (slice_get list l.place)) (drop l.list-index (lists_view l.lists))
+    ≡ given_at (lists_view l.lists) l.place l.start

@@ -8,12 +8,16 @@ use Rattle.coll_script.proofs.matching.all_have_starts.Goals as goal
 
 pub returns-then-not-have_starts : goal.returns-then-not-have_starts
 returns-then-not-have_starts c =
-    let here = at-view (λ (v : Vec (Vec rust.Request Global) Global). lists_view v.items) c.args.all.now c.loop-lists.lists-index c.lists-item.result c.loop-lists-test.true c.lists-item.is in
+    let here = at-view (λ (v : Vec (Vec rust.Request Global) Global). lists_view v.items) c.args.all.now c.loop-lists.lists-index
+    c.lists-item.result c.loop-lists-test.true c.lists-item.is in
     list_all-stops have_starts (all_lists_view c.args.all.now) c.loop-lists.lists-index (lists_view c.lists-item.result.items) _ here.0 here.1
-    (ap (λ (l : List (Vec rust.Request Global)). have_starts (lists_view l)) (sym c.deref.ensures.value) ∙ sym c.have_starts.ensures ∙ c.if-not-have_starts.true) c.loop-lists.invariant
+    (ap (λ (l : List (Vec rust.Request Global)). have_starts (lists_view l)) (sym c.deref.ensures.value)
+    ∙ sym c.have_starts.ensures ∙ c.if-not-have_starts.true) c.loop-lists.invariant
 
 pub loop-lists-preserved : goal.loop-lists-preserved
 loop-lists-preserved c =
-    let here = at-view (λ (v : Vec (Vec rust.Request Global) Global). lists_view v.items) c.args.all.now c.loop-lists.lists-index c.lists-item.result c.loop-lists-test.true c.lists-item.is in
+    let here = at-view (λ (v : Vec (Vec rust.Request Global) Global). lists_view v.items) c.args.all.now c.loop-lists.lists-index
+    c.lists-item.result c.loop-lists-test.true c.lists-item.is in
     list_all-more have_starts (all_lists_view c.args.all.now) c.loop-lists.lists-index (lists_view c.lists-item.result.items) _ here.0 here.1
-    (ap (λ (l : List (Vec rust.Request Global)). have_starts (lists_view l)) (sym c.deref.ensures.value) ∙ sym c.have_starts.ensures ∙ c.if-not-have_starts.false) c.loop-lists.invariant
+    (ap (λ (l : List (Vec rust.Request Global)). have_starts (lists_view l)) (sym c.deref.ensures.value)
+    ∙ sym c.have_starts.ensures ∙ c.if-not-have_starts.false) c.loop-lists.invariant

@@ -11,6 +11,8 @@ use Rattle.coll_script.proofs.matching.earliest.Goals as goal
 pub loop-list-preserved : goal.loop-list-preserved
 loop-list-preserved c place =
     earliest-more (lists_view c.args.lists.now) c.loop-list.list-index place (list_view c.list-item.result.items) (slice_get c.loop-list.firsts.items place) _ _
-    (drop-view (λ (list : Vec rust.Request Global). list_view list.items) c.args.lists.now c.loop-list.list-index c.list-item.result c.loop-list-test.true c.list-item.is)
-    (c.in_ok-keep_earlier.ensures place ∙ ap (λ (list : List rust.Request). earlier (slice_get c.loop-list.firsts.items place) (first_at (list_view list) place)) c.deref.ensures.value)
+    (drop-view (λ (list : Vec rust.Request Global). list_view list.items) c.args.lists.now c.loop-list.list-index
+    c.list-item.result c.loop-list-test.true c.list-item.is)
+    (c.in_ok-keep_earlier.ensures place
+    ∙ ap (λ (list : List rust.Request). earlier (slice_get c.loop-list.firsts.items place) (first_at (list_view list) place)) c.deref.ensures.value)
     (c.loop-list.invariant place)

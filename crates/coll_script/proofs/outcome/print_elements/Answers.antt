@@ -19,7 +19,8 @@ returns-in_err-push-clause-err c = OnErr-always _ (subst (Extends c.args.out.now
 
 pub returns-in_err-print_element-clause-err : goal.returns-in_err-print_element-clause-err
 returns-in_err-print_element-clause-err c =
-    OnErr-always _ (subst (Extends c.args.out.now.items) (sym c.in_err-print_element.ensures.err) (Extends-more _ _ _ _ c.loop.invariant.front c.in_ok-push.ensures.items))
+    OnErr-always _ (subst (Extends c.args.out.now.items) (sym c.in_err-print_element.ensures.err)
+    (Extends-more _ _ _ _ c.loop.invariant.front c.in_ok-push.ensures.items))
 
 pub loop-preserved : goal.loop-preserved
 loop-preserved c =
@@ -28,6 +29,8 @@ loop-preserved c =
     let le = width-le c.args.ty (length c.args.row.now) c.loop.counter (length c.loop.rest.now) before_end c.loop.invariant.rest in
     record {
       rest = rw (c.split_at.ensures.back, width-is) (rest-more c.args.ty (length c.args.row.now) c.loop.counter c.loop.rest.now le c.loop.invariant.rest);
-      so_far = rw (c.in_ok-print_element.ensures.ok, c.in_ok-push.ensures.items, c.split_at.ensures.back, width-is) (spaced-more c.args.ty (length c.args.row.now / width c.args.ty) c.loop.counter c.loop.rest.now c.loop.out.items _ before_end c.loop.invariant.so_far);
+      so_far = rw (c.in_ok-print_element.ensures.ok, c.in_ok-push.ensures.items, c.split_at.ensures.back, width-is)
+          (spaced-more c.args.ty (length c.args.row.now / width c.args.ty) c.loop.counter c.loop.rest.now c.loop.out.items _
+          before_end c.loop.invariant.so_far);
       front = Extends-more _ _ _ _ (Extends-more _ _ _ _ c.loop.invariant.front c.in_ok-push.ensures.items) c.in_ok-print_element.ensures.ok;
     }

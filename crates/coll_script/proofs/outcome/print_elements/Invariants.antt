@@ -9,6 +9,7 @@ use Rattle.coll_script.proofs.outcome.print_elements.Given as goal
 abbrev pub invariant-loop : goal.invariant-loop
 invariant-loop l = record {
   rest : length l.rest + l.counter * width l.ty ≡ length l.row;
-  so_far : l.out.items ++ flat_map element_text (elements l.ty (length l.row / width l.ty - l.counter) l.rest) ≡ l.initial.out.items ++ flat_map element_text (elements l.ty (length l.row / width l.ty) l.row);
+  so_far : l.out.items ++ flat_map element_text (elements l.ty (length l.row / width l.ty - l.counter) l.rest)
+      ≡ l.initial.out.items ++ flat_map element_text (elements l.ty (length l.row / width l.ty) l.row);
   front : Extends l.initial.out.items l.out.items;
 }

@@ -16,7 +16,8 @@ returns-then-n-eq0-clause-text g c =
     let all : Consumes start end text = subst (Consumes start end) (sym c.in_ok-n.ensures.text) parts in
     elim c.then-n-eq0.branch [
       | then-n-eq0-via-then-n-eq0 w ↦
-          take-whole start end text 1048577 all (c.in_ok-n.ensures.end w.if-n-eq0.true) (omega (arith, c.in_ok-n.ensures.bound, c.in_ok-n.ensures.len, c.len.ensures, c.loop.text.ok.0, c.read_piece.new.text.ok.0))
+          take-whole start end text 1048577 all (c.in_ok-n.ensures.end w.if-n-eq0.true)
+          (omega (arith, c.in_ok-n.ensures.bound, c.in_ok-n.ensures.len, c.len.ensures, c.loop.text.ok.0, c.read_piece.new.text.ok.0))
       | then-n-eq0-via-else-n-eq0+then-len-eq-READ_LIMIT w ↦
           take-front start end text 1048577 all (omega (arith, w.if-len-eq-READ_LIMIT.true, w.len-else-n-eq0.ensures, c.read_piece.new.text.ok.0))
     ]

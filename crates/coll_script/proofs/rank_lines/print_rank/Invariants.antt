@@ -9,6 +9,7 @@ abbrev pub invariant-loop-number : goal.invariant-loop-number
 invariant-loop-number l = record {
   room : length l.places ≡ 16;
   counted : (comm : ℕ) → comm < 16 → slice_index l.places comm ≡ length (posted_on comm (take l.number (map request_view l.requests)));
-  printed : l.out.items ++ printed_behind (values_view l.values) l.rank (take l.number (map request_view l.requests)) (drop l.number (map request_view l.requests))
+  printed : l.out.items ++ printed_behind (values_view l.values) l.rank (take l.number (map request_view l.requests))
+      (drop l.number (map request_view l.requests))
       ≡ l.initial.out.items ++ printed_behind (values_view l.values) l.rank [] (map request_view l.requests);
 }

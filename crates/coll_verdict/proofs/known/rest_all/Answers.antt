@@ -22,4 +22,5 @@ loop-index-preserved c = λ k s.
 pub returns : goal.returns
 returns c = λ k s.
     let far : length c.args.named.now ≤ c.loop-index.index = omega (arith, c.loop-index-test.false, c.len-index-end.ensures) in
-    subst (λ (qs : List ℕ). IsSketch c.loop-index.requests.items (resting k qs)) (take_whole c.args.named.now c.loop-index.index far) (c.loop-index.invariant k s)
+    subst (λ (qs : List ℕ). IsSketch c.loop-index.requests.items (resting k qs))
+    (take_whole c.args.named.now c.loop-index.index far) (c.loop-index.invariant k s)

@@ -7,9 +7,15 @@ use Rattle.coll_verdict.proofs.verdict.all_pass.Goals as goal
 pub loop-rank-init : goal.loop-rank-init
 loop-rank-init c =
     let yes : c.are_at_beginnings.result ≡ true = grind arith in
-    let all : list_all is_at_beginning c.args.ranks.items ≡ true = ap (list_all is_at_beginning) (sym c.deref.ensures.value) ∙ (sym c.are_at_beginnings.ensures ∙ yes) in
+    let all : list_all is_at_beginning c.args.ranks.items ≡ true =
+    ap (list_all is_at_beginning) (sym c.deref.ensures.value) ∙ (sym c.are_at_beginnings.ensures ∙ yes) in
     let apart : c.are_apart.result ≡ true = grind arith in
-    record { apart = sym c.are_apart.ensures ∙ apart; stood = c.requires.stood; passes = λ rule follows g e. has_begun_so rule c.args.history.now c.args.ranks.items all g }
+    record {
+      apart = sym c.are_apart.ensures ∙ apart;
+      stood = c.requires.stood;
+      passes =
+          λ rule follows g e. has_begun_so rule c.args.history.now c.args.ranks.items all g;
+    }
 
 pub returns : goal.returns
 returns c = λ yes.

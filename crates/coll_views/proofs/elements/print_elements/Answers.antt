@@ -20,5 +20,6 @@ loop-preserved c =
     record {
       rest = rw (c.split_at.ensures.back, width-is) (rest-more c.args.ty (length c.args.row.now) c.loop.counter c.loop.rest.now le c.loop.invariant.rest);
       so_far = rw (c.in_ok-print_one.ensures, c.split_at.ensures.back, width-is)
-          (elements-more (element_text c.args.style c.args.ty) c.args.ty (length c.args.row.now / width c.args.ty) c.loop.counter c.loop.rest.now c.loop.out.items _ before_end c.loop.invariant.so_far);
+          (elements-more (element_text c.args.style c.args.ty) c.args.ty (length c.args.row.now / width c.args.ty) c.loop.counter
+          c.loop.rest.now c.loop.out.items _ before_end c.loop.invariant.so_far);
     }

@@ -8,4 +8,5 @@ pub loop-entry-preserved : goal.loop-entry-preserved
 loop-entry-preserved c =
     let front = drop-view seen c.args.trace.now c.loop-entry.entry-index c.entry-item.result c.loop-entry-test.true c.entry-item.is in
     rw c.in_ok-print_entry.ensures
-    (flat_map-more (outcome_of c.args.requests.now c.args.start_lines.now c.args.rank) _ c.loop-entry.entry-index (seen c.entry-item.result) c.loop-entry.out.items _ front c.loop-entry.invariant)
+    (flat_map-more (outcome_of c.args.requests.now c.args.start_lines.now c.args.rank) _ c.loop-entry.entry-index
+    (seen c.entry-item.result) c.loop-entry.out.items _ front c.loop-entry.invariant)

@@ -13,4 +13,5 @@ loop-entry-preserved c =
     let made : c.row_of.result ≡ row_of (named c.args.requests.now e) e =
     c.row_of.ensures ∙ ap (λ found. row_of found e) (sym c.in_ok-found.ensures) in
     rw c.in_ok-push.ensures.items
-    (map-more (λ (x : Entry). row_of (named c.args.requests.now x) x) _ c.loop-entry.entry-index e c.loop-entry.rows.items _ c.row_of.result front made c.loop-entry.invariant)
+    (map-more (λ (x : Entry). row_of (named c.args.requests.now x) x) _ c.loop-entry.entry-index e c.loop-entry.rows.items _
+    c.row_of.result front made c.loop-entry.invariant)

@@ -10,4 +10,5 @@ pub loop-index-preserved : goal.loop-index-preserved
 loop-index-preserved c =
     let front = drop-view seen c.args.trace.now c.loop-index.index c.index-trace-index.result c.loop-index-test.true c.index-trace-index.is in
     rw (c.in_ok-print_entry.ensures, c.line_of_entry-line.ensures)
-    (text-more (λ (at : ℕ × Entry). entry_line c.args.requests.now (slice_index c.args.lines.now at.0) at.1) _ c.loop-index.index (seen c.index-trace-index.result) c.loop-index.out.items _ front c.loop-index.invariant)
+    (text-more (λ (at : ℕ × Entry). entry_line c.args.requests.now (slice_index c.args.lines.now at.0) at.1) _ c.loop-index.index
+    (seen c.index-trace-index.result) c.loop-index.out.items _ front c.loop-index.invariant)

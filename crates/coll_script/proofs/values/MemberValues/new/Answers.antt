@@ -5,4 +5,5 @@ use Rattle.coll_script.proofs.values.MemberValues.new.Goals as goal
 
 pub returns-then-is_shared-clause-ok : goal.returns-then-is_shared-clause-ok
 returns-then-is_shared-clause-ok c =
-    shared-values c.args.sig (rows_view c.args.given.now) c.in_ok-plain_value.field-0.items (sym c.is_shared.ensures ∙ c.if-is_shared.true) c.in_ok-plain_value.ensures.ok 0 c.args.n
+    shared-values c.args.sig (rows_view c.args.given.now) c.in_ok-plain_value.field-0.items
+    (sym c.is_shared.ensures ∙ c.if-is_shared.true) c.in_ok-plain_value.ensures.ok 0 c.args.n
