@@ -17,7 +17,8 @@ is_fault (Some cause) r why is h = cc
 -- what the port has is told by the refusal
 pub unplanned : {T : Type 0} (p : Holding) (comm : ℕ) (sig : Signature) (r : Result T Refusal) (why : Refusal) → r ≡ Err why
     → IfSome (unseated p.groups p.rank comm) (λ w. IsErrOf r w)
-    → IfNone (unseated p.groups p.rank comm) (MatchOption (broken sig (length (group_in p.groups comm))) (IsOkUnless r NoMemory) (λ cause. IsErrOf r (BadSignature cause)))
+    → IfNone (unseated p.groups p.rank comm)
+    (MatchOption (broken sig (length (group_in p.groups comm))) (IsOkUnless r NoMemory) (λ cause. IsErrOf r (BadSignature cause)))
     → IsUnplanned p comm sig why
 unplanned {T} p comm sig r why is seat fault = go (unseated p.groups p.rank comm) refl seat fault
   where

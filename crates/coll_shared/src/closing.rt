@@ -1,5 +1,5 @@
 ghost use Rattle.std.specs.Prelude.{◌≡◌, ◌<◌, ℕ, length, sum_by, vec_len, IfErr, IfOk};
-ghost use Rattle.coll_traced.specs.Closings.{IsBalanced, IsObjected, ends_of};
+ghost use Rattle.coll_traced.specs.Closings.{AreEnds, IsBalanced, IsObjected};
 
 use crate::engine::Engine;
 use coll_kinds::{Refusal, Refused};
@@ -9,14 +9,13 @@ use std::sync::Wait;
 use std::sync::ledger::Share;
 
 /// Closes an engine whose ports have ended, and returns the report of all calls that it accepted.
-/// Idle requests may remain. `spents` are the ends of the ports, in the order of ranks. The close
-/// holds the lock once for all of this, so the state that it checks is the state that it takes.
+/// Idle requests may remain. `spents` are the ends of the ports, in any order. The close holds the
+/// lock once for all of this, so the state that it checks is the state that it takes.
 ///
 /// # Errors
 ///
 /// StillActive with the lowest rank that has an active request. Else Torn, unless `spents` are the
-/// ends of all ports of this engine, in the order of ranks. The engine and the ends are handed
-/// back.
+/// ends of all ports of this engine. The engine and the ends are handed back.
 pub fn close<L: Entries, R: Wait>(
     rt: &R,
     engine: Engine<L>,
@@ -25,7 +24,7 @@ pub fn close<L: Entries, R: Wait>(
     requires { L.parts ≡ L.setting.ranks }
     ensures all { IfOk result (λ report. report.setting ≡ L.setting) }
     ensures idle { IfOk result (λ report. (r : ℕ) → r < L.setting.ranks → IsBalanced r report.entries) }
-    ensures each { IfOk result (λ report. spents.items ≡ ends_of L.setting.ranks report.entries) }
+    ensures each { IfOk result (λ report. AreEnds L.setting.ranks report.entries spents.items) }
     ensures total { IfOk result (λ report. sum_by (λ spent. spent.1) spents.items ≡ length report.entries) }
     ensures back { IfErr result (λ refused. refused.back.1 ≡ spents) }
     ensures refused { IfErr result (λ refused. IsObjected L.setting spents.items refused.why) }

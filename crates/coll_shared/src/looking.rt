@@ -177,7 +177,8 @@ impl<L: Entries> Locked<L> {
     ) -> Result<Option<(Option<usize>, Receipts)>, Refusal>
         requires distinct { AreDistinct requests.old }
         requires room { vec_len out.old + length requests.old ≤ vec_capacity out.old }
-        ensures told { IfOk result (λ found. IfSome found (λ r. TestsSome L.setting mine.old rank requests.old requests.new out.old.items out.new.items r.0 r.1)) }
+        ensures told { IfOk result
+            (λ found. IfSome found (λ r. TestsSome L.setting mine.old rank requests.old requests.new out.old.items out.new.items r.0 r.1)) }
         ensures some { IfOk result (λ found. IfSome found (λ r. IfSome r.0 (λ n. 0 < n))) }
         ensures counted { IfOk result (λ found. IfSome found (λ r. IfSome r.0 (λ n. mine.new ≡ mine.old + n))) }
         ensures inactive { IfOk result (λ found. IfSome found (λ r. r.0 ≡ None → mine.new ≡ mine.old)) }

@@ -116,7 +116,8 @@ impl<L: Entries> Combiner<L> {
         tally: Tally<L>,
     ) -> (Tally<L>, Result<Option<Completed<L>>, Refusal>)
         ensures counted { IfOk result.1 (λ found. IfSome found (λ completed. result.0 ≡ tally + 1)) }
-        ensures completed { IfOk result.1 (λ found. IfSome found (λ completed. (completed.rank ≡ rank) × (completed.ticket ≡ ticket) × (completed.made ≡ tally))) }
+        ensures completed { IfOk result.1
+            (λ found. IfSome found (λ completed. (completed.rank ≡ rank) × (completed.ticket ≡ ticket) × (completed.made ≡ tally))) }
         ensures none { IfOk result.1 (λ found. IfNone found (result.0 ≡ tally)) }
         ensures err { OnErr result.1 (result.0 ≡ tally) }
         ensures refused { IfErr result.1 (IsHindrance L.setting rank) }
@@ -154,7 +155,8 @@ impl<L: Entries> Combiner<L> {
         ensures told { IfOk result.1 (λ r. TestsOne L.setting first rank request.old request.new true r.0 r.1) }
         ensures counted { IfOk result.1 (λ r. IfSome r.0 (λ outcome. result.0 ≡ first + 1)) }
         ensures none { IfOk result.1 (λ r. r.0 ≡ None → result.0 ≡ first) }
-        ensures refused { IfErr result.1 (λ why. RefusesOne L.setting first rank request.old (Some why) ⊎ (IsHindrance L.setting rank why × WasPending L.setting first rank request.old)) }
+        ensures refused { IfErr result.1
+            (λ why. RefusesOne L.setting first rank request.old (Some why) ⊎ (IsHindrance L.setting rank why × WasPending L.setting first rank request.old)) }
         ensures err { OnErr result.1 ((request.new ≡ request.old) × (result.0 ≡ first)) }
     {
         let mut tally = first;

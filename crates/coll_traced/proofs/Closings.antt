@@ -1,36 +1,16 @@
 -- Closing an engine.
-use Rattle.std.proofs.Common.{◌≡◌, ℕ, suc, ◌+◌, ◌<◌, ◌⊎◌, inl, inr, Bool, false, List, [], ◌∷◌, ◌++◌, length, get_or, take, Option, Some, None, sym, ap, subst, ◌∙◌, arith}
+use Rattle.std.proofs.Common.{◌≡◌, ℕ, ◌+◌, ◌<◌, ◌⊎◌, inl, inr, Bool, false, List, Option, Some, None, sym, ap, subst, ◌∙◌, arith}
 use Rattle.std.specs.Prelude.{◌↔◌, IfSome, IsNone, IsTrue}
-use Rattle.std.proofs.Math.Seq.{take-suc}
 use Rattle.std.proofs.lemmas.Bool.{cases_eq}
-use Rattle.std.proofs.lemmas.List.FromFn.{length-map-range_with_len, get_or-map-range_with_len, map-range_with_len_more}
 use Rattle.coll_machine.specs.Common.{Entry, Setting, AreGroups}
 use Rattle.coll_report.specs.Told.{IsIdle}
 use Rattle.coll_core.specs.declared.config.Config.{Config}
 use Rattle.coll_core.specs.Configs.{setting_by}
 use Rattle.coll_core.specs.Cores.{Parts, seen, setting}
-use Rattle.coll_report.specs.Reports.{IsClosed}
-use Rattle.coll_report.specs.Traces.{entries_of}
+use Rattle.coll_report.specs.Reports.{EndsWith, IsClosed}
 use Rattle.coll_traced.specs.Traced.{IsKept}
-use Rattle.coll_traced.specs.Closings.{IsBalanced, IsFirstBusy, ends_of}
+use Rattle.coll_traced.specs.Closings.{IsBalanced, IsFirstBusy}
 use Rattle.coll_traced.proofs.Balances.{balanced, unbalanced, all_balanced}
-
-abbrev pub Ends : Type 0
-Ends = List (ℕ × ℕ)
-
--- ---- the ends of all ports
-
-pub ends_len : (n : ℕ) (es : List Entry) (ends : Ends) → ends ≡ ends_of n es → length ends ≡ n
-ends_len n es ends e = ap length e ∙ length-map-range_with_len (λ rank. (rank, entries_of rank es)) 0 n
-
-pub ends_at : (n : ℕ) (es : List Entry) (ends : Ends) (i : ℕ) (d : ℕ × ℕ) → ends ≡ ends_of n es → i < n → get_or ends i d ≡ (i, entries_of i es)
-ends_at n es ends i d e lt = ap (λ ends. get_or ends i d) e ∙ get_or-map-range_with_len (λ rank. (rank, entries_of rank es)) 0 n i i d lt (omega arith)
-
-pub ends_more : (n : ℕ) (es : List Entry) (ends : Ends) (d : ℕ × ℕ) → take n ends ≡ ends_of n es → n < length ends → get_or ends n d ≡ (n, entries_of n es)
-    → take (n + 1) ends ≡ ends_of (n + 1) es
-ends_more n es ends d was lt here =
-    let more : n + 1 ≡ suc n = omega arith in
-    ap (λ k. take k ends) more ∙ (take-suc ends n d lt ∙ ((λ z. was z ++ here z ∷ []) ∙ sym (map-range_with_len_more (λ rank. (rank, entries_of rank es)) 0 n n (omega arith))))
 
 -- a test that says false of what is so
 pub wrong_end : {P : Type 0} (b : Bool) → IsTrue b ↔ P → b ≡ false → P → IsTrue false
@@ -76,3 +56,13 @@ closed {g} {config} {p} {es} {n} s fs k idle s_is fs_is =
       legal = rw (same, fs_is) k.legal;
       idle = idle;
     }
+
+-- at the trace's end the core is the one whose trace it is
+pub ends_with : {g : Setting} {config : Config} {p : Parts} {es : List Entry} {n : ℕ} (s : Setting) (fs : List Entry) → IsKept g config p es n
+    → IsIdle (seen p).state → s ≡ setting_by config → fs ≡ es → (q : Parts) → q ≡ p → EndsWith q (record { setting = s; entries = fs })
+unfolding closed
+ends_with {g} {config} {p} {es} {n} s fs k idle s_is fs_is q q_is = record {
+  closed = closed s fs k idle s_is fs_is;
+  setting_is = (s_is ∙ sym k.opened) ∙ ap setting (sym q_is);
+  last_is = ap (λ (r : Parts). (seen r).state) (sym q_is);
+}

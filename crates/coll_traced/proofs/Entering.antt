@@ -7,7 +7,9 @@ use Rattle.coll_kinds.specs.declared.ticket.Ticket.{Ticket}
 use Rattle.coll_kinds.specs.Puts.{put}
 use Rattle.coll_kinds.specs.declared.kind.Mode.TheVariants.{Once, Persistent}
 use Rattle.coll_kinds.proofs.Puts.{put_same}
-use Rattle.coll_machine.specs.Common.{Setting, State, Machine, Request, found, Planned, Call, new_request, once_more, created, started, MachineStep, post, init, start, finish, retire, wait, free, refuse, short, MayFinish, StepsTo, Posts, Inits, Starts, Frees, Retires}
+use Rattle.coll_machine.specs.Common.{Setting, State, Machine, Request, found, Planned, Call, new_request, once_more, created, started, MachineStep}
+use Rattle.coll_machine.specs.Common.{post, init, start, finish, retire, wait, free, refuse, short, MayFinish, StepsTo, Posts, Inits, Starts, Frees}
+use Rattle.coll_machine.specs.Common.{Retires}
 use Rattle.coll_machine.specs.Calls as calls
 use Rattle.coll_machine.proofs.Accepted.{found_is}
 
@@ -48,7 +50,8 @@ pub finished : (g : Setting) (m n : Machine) → MayFinish g m n → n.state ≡
 finished g m n (inl e) = ap (λ (k : Machine). k.state) (sym e)
 finished g m n (inr step) = means g m n calls.Finish calls.Nothing step
 
-pub posts : (g : Setting) (m n : Machine) (rank comm : ℕ) (plan : Planned) (bytes : List ℕ) (t : Ticket) → StepsTo g m (calls.Post rank comm plan bytes) (calls.Ticketed t) n
+pub posts : (g : Setting) (m n : Machine) (rank comm : ℕ) (plan : Planned) (bytes : List ℕ) (t : Ticket)
+    → StepsTo g m (calls.Post rank comm plan bytes) (calls.Ticketed t) n
     → (place : ℕ) × Posts g m.state rank t comm place plan bytes n.state
 posts g m n rank comm plan bytes t h =
     let p = means g m h.0 (calls.Post rank comm plan bytes) (calls.Ticketed t) h.1 in
@@ -65,12 +68,14 @@ starts g m n rank t bytes h =
 found_there : (s : State) (t : Ticket) (o : Option Request) → s.generation t.slot ≡ t.generation → s.request t.slot ≡ o → found s t ≡ o
 found_there s t o generation request = cond-true (eqb (s.generation t.slot) t.generation) (s.request t.slot) None (eq-eqb _ _ generation) ∙ request
 
-pub found_posted : (g : Setting) (s u : State) (rank : ℕ) (t : Ticket) (comm place : ℕ) (plan : Planned) (bytes : List ℕ) → (p : Posts g s rank t comm place plan bytes u)
+pub found_posted : (g : Setting) (s u : State) (rank : ℕ) (t : Ticket) (comm place : ℕ) (plan : Planned) (bytes : List ℕ)
+    → (p : Posts g s rank t comm place plan bytes u)
     → found u t ≡ Some (once_more (new_request rank comm p.member place Once))
 found_posted g s u rank t comm place plan bytes p =
     let q = new_request rank comm p.member place Once in
     ap (λ (w : State). found w t) p.leaves
-    ∙ found_there (started (created s t q plan.sig) t.slot q bytes) t (Some (once_more q)) (put_same s.generation t.slot t.generation) (put_same (put s.request t.slot (Some q)) t.slot (Some (once_more q)))
+    ∙ found_there (started (created s t q plan.sig) t.slot q bytes) t (Some (once_more q))
+    (put_same s.generation t.slot t.generation) (put_same (put s.request t.slot (Some q)) t.slot (Some (once_more q)))
 
 pub found_inited : (g : Setting) (s u : State) (rank : ℕ) (t : Ticket) (comm place : ℕ) (plan : Planned) → (p : Inits g s rank t comm place plan u)
     → found u t ≡ Some (new_request rank comm p.member place Persistent)
@@ -83,4 +88,5 @@ pub found_started : (g : Setting) (s u : State) (rank : ℕ) (t : Ticket) (begin
     → found u t ≡ Some (once_more p.request)
 found_started g s u rank t begin bytes p =
     ap (λ (w : State). found w t) p.leaves
-    ∙ found_there (started s t.slot p.request bytes) t (Some (once_more p.request)) (found_is s t p.request p.is).0 (put_same s.request t.slot (Some (once_more p.request)))
+    ∙ found_there (started s t.slot p.request bytes) t (Some (once_more p.request)) (found_is s t p.request p.is).0
+    (put_same s.request t.slot (Some (once_more p.request)))

@@ -4,6 +4,7 @@ pub mod Entering
 -- what ports are told, of what they wait for, and of a deadlock
 pub mod Telling
 pub mod Awaiting
+pub mod RankBits
 pub mod PortWaits
 pub mod Stalling
 -- counts of a rank, and the closing

@@ -16,11 +16,14 @@ slice_get-behind [] e = refl
 slice_get-behind (x ∷ xs) e = slice_get-behind xs e
 
 -- the last of the code's entries is the last entry
-pub seen-last : (es : List rust_entry.Entry) (before : List Entry) (e : Entry) (x : rust_entry.Entry) → trace_seen es ≡ before ++ e ∷ [] → Some x ≡ slice_get es (length es - 1) → seen x ≡ e
+pub seen-last : (es : List rust_entry.Entry) (before : List Entry) (e : Entry) (x : rust_entry.Entry)
+    → trace_seen es ≡ before ++ e ∷ [] → Some x ≡ slice_get es (length es - 1) → seen x ≡ e
 seen-last es before e x is at =
     let long : length es ≡ length before + 1 = sym (length-map es seen) ∙ ap length is ∙ length-append before (e ∷ []) in
     let place : length es - 1 ≡ length before = omega arith in
-    let found : Some (seen x) ≡ Some e = ap (λ o. option_map seen o) at ∙ sym (slice_get-map seen es (length es - 1)) ∙ ap (λ k. slice_get (trace_seen es) k) place ∙ ap (λ l. slice_get l (length before)) is ∙ slice_get-behind before e in
+    let found : Some (seen x) ≡ Some e =
+    ap (λ o. option_map seen o) at ∙ sym (slice_get-map seen es (length es - 1))
+    ∙ ap (λ k. slice_get (trace_seen es) k) place ∙ ap (λ l. slice_get l (length before)) is ∙ slice_get-behind before e in
     ap (λ o. unwrap_or o e) found
 
 -- an entry that is made of the same again is the last entry

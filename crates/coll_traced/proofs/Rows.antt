@@ -1,15 +1,19 @@
 -- An engine without a communicator stays as it was opened.
-use Rattle.std.proofs.Common.{◌≡◌, ◌<◌, ◌+◌, ◌++◌, ◌⊎◌, ℕ, Bool, true, false, List, [], ◌∷◌, length, Option, Some, None, inl, inr, refl, sym, ap, subst, ◌∙◌, arith}
+use Rattle.std.proofs.Common.{◌≡◌, ◌<◌, ◌+◌, ◌++◌, ◌⊎◌, ℕ, Bool, true, false, List, [], ◌∷◌, Contains, length, Option, Some, None}
+use Rattle.std.proofs.Common.{inl, inr, refl, sym, ap, subst, ◌∙◌, arith}
 use Rattle.std.specs.Prelude.{◌==◌, if◌then◌else◌}
 use Rattle.coll_kinds.specs.declared.refusal.Refusal.{Refusal}
 use Rattle.coll_kinds.specs.declared.refusal.Refusal.TheVariants.{NoMemory, Stale, TraceFull}
 use Rattle.coll_kinds.specs.declared.ticket.Ticket.{Ticket}
-use Rattle.coll_machine.specs.Common.{Call, Free, Refused, Reply, Retire, Start, Entry, Posted, Inited, Started, Retired, Freed, MachineStep, post, init, start, finish, retire, wait, free, refuse, short, first_of, idle_refusals, naming_refusals, refusal, start_refusals, Setting, Machine, Request, State, found, nothing, Enters, Leads, LegalTrace, reserved}
+use Rattle.coll_machine.specs.Common.{Call, Free, Refused, Reply, Retire, Start, Entry, Posted, Inited, Started, Retired, Freed, MachineStep, post}
+use Rattle.coll_machine.specs.Common.{init, start, finish, retire, wait, free, refuse, short, first_of, idle_refusals, naming_refusals, refusal}
+use Rattle.coll_machine.specs.Common.{start_refusals, Setting, Machine, Request, State, found, nothing, Enters, Leads, LegalTrace, reserved}
 use Rattle.coll_complete.specs.Requests.{free_refusal, list_refusal, refusal_at}
 use Rattle.coll_core.specs.Cores.{Parts, seen, setting}
 use Rattle.coll_core.specs.Phases.{phase_in, phase_of}
 use Rattle.coll_core.specs.declared.phase.Phase.TheVariants.{Pending}
-use Rattle.coll_traced.specs.Closings.{IsFirstBusy, IsObjected, Objects, ends_of}
+use Rattle.coll_report.specs.Traces.{entries_of}
+use Rattle.coll_traced.specs.Closings.{AreEnds, IsFirstBusy, IsObjected, Objects}
 use Rattle.coll_traced.specs.Denials.{IsDenied}
 use Rattle.coll_traced.specs.Moments.{IsMoment}
 use Rattle.coll_traced.specs.Rows.{AnswersCanBeWrong, silent}
@@ -126,18 +130,29 @@ not_busy s rank is b =
     let e : None ≡ Some b.busy.request = ap (λ (s : State). s.request b.busy.slot) (sym is) ∙ b.busy.is in
     absurd cc
 
+one_end : AreEnds silent.ranks [] ((0, 0) ∷ [])
+one_end = record { many = refl; each = its_end }
+  where
+    its_end : (rank : ℕ) → rank < 1 → Contains {X = ℕ × ℕ} ((0, 0) ∷ []) (rank, entries_of rank [])
+    its_end rank lt =
+        let zero_is : rank ≡ 0 = omega (arith, lt) in
+        let within : 0 < 1 = omega arith in
+        subst (λ r. Contains {X = ℕ × ℕ} ((0, 0) ∷ []) (r, entries_of r [])) (sym zero_is) (0, within, refl)
+
 objected : (why : Refusal) → IsObjected silent ((0, 0) ∷ []) why → ⊥
 objected why o = go o.objects
   where
     is : (o.at.entries ≡ []) × ((seen o.at.core).state ≡ nothing)
     is = only o.at.entries (seen o.at.core).state o.legal
 
-    ends : ends_of (setting o.at.core).ranks o.at.entries ≡ (0, 0) ∷ []
-    ends = λ z. ends_of (o.setting_is z).ranks (is.0 z)
+    ends : AreEnds (setting o.at.core).ranks o.at.entries ((0, 0) ∷ [])
+    ends =
+        let of_silent = subst (λ es. AreEnds silent.ranks es ((0, 0) ∷ [])) (sym is.0) one_end in
+        subst (λ (s : Setting). AreEnds s.ranks o.at.entries ((0, 0) ∷ [])) (sym o.setting_is) of_silent
 
     go : Objects o.at ((0, 0) ∷ []) why → ⊥
     go (inl busy) = not_busy (seen o.at.core).state busy.0 is.1 busy.2
-    go (inr torn) = torn.1 (sym ends)
+    go (inr torn) = torn.1 ends
 
 -- a ticket names nothing there
 not_pending : (p : Parts) (t : Ticket) → (seen p).state ≡ nothing → phase_in (seen p) t ≡ Some Pending → ⊥
@@ -148,8 +163,8 @@ not_pending p t is pending =
 
 not_held_up : (p : Parts) (w : WaitFor) → (seen p).state ≡ nothing → IsHeldUp p w → ⊥
 not_held_up p Awake is held = held
-not_held_up p (ForOne rank t) is held = not_pending p t is held
-not_held_up p (ForAny rank ts) is held = not_pending p held.1 is held.4
+not_held_up p (ForOne rank t) is held = not_pending p t is held.1
+not_held_up p (ForAny rank ts) is held = not_pending p held.1 is held.4.1
 not_held_up p Ended is held = held
 
 stalls_none : (rank : ℕ) (w : WaitFor) → WasStalledFor silent rank w → ⊥

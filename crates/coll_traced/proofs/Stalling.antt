@@ -4,16 +4,9 @@ use Rattle.std.specs.Prelude.{replicate, slice_get, slice_set}
 use Rattle.std.proofs.lemmas.Bool.{cases_eq}
 use Rattle.std.proofs.lemmas.List.{length-replicate, length-set}
 use Rattle.coll_machine.specs.Common.{Setting}
+use Rattle.coll_traced.proofs.PortWaits.{slice_get-set_other}
 use Rattle.coll_traced.specs.Stalls.{AreTold}
 use Rattle.coll_traced.specs.Waits.{WaitFor, Awake}
-
--- what is written at one place leaves the others
-slice_get-set_other : {X : Type 0} (xs : List X) (i j : ℕ) (x : X) → (j ≡ i → ⊥) → slice_get (slice_set xs i x) j ≡ slice_get xs j
-slice_get-set_other [] i j x differs = refl
-slice_get-set_other (y ∷ xs) zero zero x differs = absurd (differs refl)
-slice_get-set_other (y ∷ xs) zero (suc j) x differs = refl
-slice_get-set_other (y ∷ xs) (suc i) zero x differs = refl
-slice_get-set_other (y ∷ xs) (suc i) (suc j) x differs = slice_get-set_other xs i j x (λ same. differs (ap suc same))
 
 -- a mark that is taken back isn't there
 unmarked : (marks : List Bool) (i : ℕ) → slice_get (slice_set marks i false) i ≡ Some true → ⊥

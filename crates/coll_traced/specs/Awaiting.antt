@@ -10,7 +10,7 @@ use Rattle.coll_core.specs.Cores.{Parts}
 use Rattle.coll_core.specs.Phases.{phase_in}
 use Rattle.coll_complete.specs.Requests.{is_active, is_done}
 use Rattle.coll_traced.specs.Waits.{WaitFor, Awake, ForOne, ForAny, Ended}
-use Rattle.coll_traced.specs.Stalls.{IsDone, WasStalled}
+use Rattle.coll_traced.specs.Stalls.{IsDone, IsPending, WasStalled}
 use Rattle.coll_traced.specs.declared.awaited.Awaited.{Awaited}
 use Rattle.coll_traced.specs.declared.awaited.Awaited.TheVariants as awaited
 
@@ -45,11 +45,15 @@ IsWaitFor m rank (awaited.One request) wait = (t : Ticket) × (request.now ≡ S
 IsWaitFor m rank (awaited.Any requests) wait = wait ≡ ForAny rank (tickets_in requests.now)
 IsWaitFor m rank (awaited.All requests) wait = IsForOneOf m rank requests.now wait
 
--- the port needn't wait, since there is no request; of all requests of a list this says nothing
-abbrev pub NeedsNoWait : Awaited → Type 0
-NeedsNoWait (awaited.One request) = request.now ≡ None
-NeedsNoWait (awaited.Any requests) = ⊥
-NeedsNoWait (awaited.All requests) = Unit {0}
+-- none of the requests of a list is one of the rank that is Pending
+abbrev pub NoneIsPending : Parts → ℕ → List (Option Ticket) → Type 0
+NoneIsPending p rank list = (t : Ticket) → IsListed list t → IsPending p rank t → ⊥
+
+-- the port needn't wait: there is no request; or it awaits all of a list, of which none is Pending
+abbrev pub NeedsNoWait : Parts → ℕ → Awaited → Type 0
+NeedsNoWait p rank (awaited.One request) = request.now ≡ None
+NeedsNoWait p rank (awaited.Any requests) = ⊥
+NeedsNoWait p rank (awaited.All requests) = NoneIsPending p rank requests.now
 
 -- of all waits only the port's is made anew, for what it awaits
 pub record WaitsFor (m : Machine) (rank : ℕ) (wanted : Awaited) (old new : List WaitFor) : Type 0 where

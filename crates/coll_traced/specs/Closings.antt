@@ -1,7 +1,6 @@
 -- When an engine can be closed.
-use Rattle.std.specs.Prelude.{◌≡◌, ◌≢◌, ◌==◌, ◌<◌, ◌⊎◌, ℕ, Bool, true, false}
-use Rattle.std.specs.Prelude.{List, Option, Some, None, map, length, count_by, slice_index}
-use Rattle.std.specs.List.{range_with_len}
+use Rattle.std.specs.Prelude.{◌≡◌, ◌==◌, ◌<◌, ◌⊎◌, ℕ, Bool, true, false}
+use Rattle.std.specs.Prelude.{List, Contains, Option, Some, None, length, count_by, slice_index}
 use Rattle.coll_kinds.specs.declared.refusal.Refusal.{Refusal}
 use Rattle.coll_kinds.specs.declared.refusal.Refusal.TheVariants.{StillActive, Torn}
 use Rattle.coll_machine.specs.Common.{Entry, Posted, Inited, Started, Retired, Freed, Request, State, Setting, LegalTrace}
@@ -45,16 +44,17 @@ pub record IsFirstBusy (s : State) (rank : ℕ) : Type 0 where
   pub busy : IsBusy s rank
   pub first : (r : ℕ) → r < rank → IsBusy s r → ⊥
 
--- the ends of one port of each rank, in their order, with as many entries as its rank has
-abbrev pub ends_of : ℕ → List Entry → List (ℕ × ℕ)
-ends_of ranks es = map (λ rank. (rank, entries_of rank es)) (range_with_len 0 ranks)
+-- the ends of one port of each rank, in any order, each with as many entries as its rank has
+pub record AreEnds (ranks : ℕ) (es : List Entry) (ends : List (ℕ × ℕ)) : Type 0 where
+  pub many : length ends ≡ ranks
+  pub each : (rank : ℕ) → rank < ranks → Contains ends (rank, entries_of rank es)
 
 -- why an engine can't be closed with these ends of ports: a rank has an active request, or else the ends aren't those
 -- of all ports
 abbrev pub Objects : Traced → List (ℕ × ℕ) → Refusal → Type 0
 Objects t ends why =
     ((rank : ℕ) × (why ≡ StillActive rank) × IsFirstBusy (seen t.core).state rank)
-    ⊎ (IsIdle (seen t.core).state × (ends ≢ ends_of (setting t.core).ranks t.entries) × (why ≡ Torn))
+    ⊎ (IsIdle (seen t.core).state × (AreEnds (setting t.core).ranks t.entries ends → ⊥) × (why ≡ Torn))
 
 -- the same, without naming what lay under the lock: an engine with that setting and a legal trace
 pub record IsObjected (g : Setting) (ends : List (ℕ × ℕ)) (why : Refusal) : Type 0 where

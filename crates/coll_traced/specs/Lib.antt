@@ -1,6 +1,7 @@
 -- a core with its trace; what ports wait for, when nothing can go on, and what calls return
 pub mod Traced
 pub mod Moments
+pub mod Ranks
 pub mod Waits
 pub mod Stalls
 pub mod Calls

@@ -1,12 +1,13 @@
 -- When nothing can go on.
-use Rattle.std.specs.Prelude.{◌≡◌, ℕ, All, Any, Bool, List, Some, None, true, length, slice_get}
+use Rattle.std.specs.Prelude.{◌≡◌, ◌↔◌, ◌<◌, ℕ, All, Any, Bool, List, Some, None, true, length, slice_get}
 use Rattle.coll_kinds.specs.declared.ticket.Ticket.{Ticket}
 use Rattle.coll_machine.specs.Common.{Retire, refusal, Setting, LegalTrace}
 use Rattle.coll_core.specs.declared.phase.Phase.TheVariants.{Done, Pending}
 use Rattle.coll_core.specs.Cores.{Parts, seen, setting}
 use Rattle.coll_core.specs.Phases.{IsQuiet, phase_in}
 use Rattle.coll_traced.specs.declared.port_wait.PortWait.{PortWait}
-use Rattle.coll_traced.specs.Waits.{WaitFor, Awake, ForOne, ForAny, Ended, mark_in, wait_in}
+use Rattle.coll_traced.specs.Ranks.{IsIn}
+use Rattle.coll_traced.specs.Waits.{WaitFor, Awake, ForOne, ForAny, Ended, IsWaiting, mark_in, wait_in}
 use Rattle.coll_traced.specs.Traced.{Traced}
 
 -- the ticket names a request of the rank that can be completed
@@ -25,25 +26,42 @@ pub record IsStalled (t : Traced) : Type 0 where
   pub quiet : IsQuiet t.core
   pub blocked : All (IsBlocked t.core) t.waits
 
--- the ticket names a request that is Pending
-abbrev pub IsPending : Parts → Ticket → Type 0
-IsPending p t = phase_in (seen p) t ≡ Some Pending
+-- the ticket names a request of the rank that is Pending
+abbrev pub IsPending : Parts → ℕ → Ticket → Type 0
+IsPending p rank t = (refusal (setting p) (seen p).state (Retire rank t) ≡ None) × (phase_in (seen p) t ≡ Some Pending)
 
--- the port waits for a request that is Pending
+-- the port waits for a request of the rank that is Pending
 abbrev pub IsHeldUp : Parts → WaitFor → Type 0
 IsHeldUp p Awake = ⊥
-IsHeldUp p (ForOne rank t) = IsPending p t
-IsHeldUp p (ForAny rank ts) = Any (IsPending p) ts
+IsHeldUp p (ForOne rank t) = IsPending p rank t
+IsHeldUp p (ForAny rank ts) = Any (IsPending p rank) ts
 IsHeldUp p Ended = ⊥
 
--- a port that is marked waits so
+-- the port is marked just where it waits so
 abbrev pub IsRightlyMarked : Parts → PortWait → Type 0
-IsRightlyMarked p port = mark_in port ≡ true → IsHeldUp p (wait_in port)
+IsRightlyMarked p port = (mark_in port ≡ true) ↔ IsHeldUp p (wait_in port)
 
--- the ports that are marked wait so
+-- just the ports that wait so are marked
 abbrev pub AreHeldUp : Parts → List WaitFor → List Bool → Type 0
 AreHeldUp p waits marks =
-    (rank : ℕ) (wait : WaitFor) → slice_get waits rank ≡ Some wait → slice_get marks rank ≡ Some true → IsHeldUp p wait
+    (rank : ℕ) (wait : WaitFor) → slice_get waits rank ≡ Some wait → (slice_get marks rank ≡ Some true) ↔ IsHeldUp p wait
+
+-- the rank has a port, and that isn't blocked
+abbrev pub IsFree : Parts → List PortWait → ℕ → Type 0
+IsFree p ports rank = (port : PortWait) × (slice_get ports rank ≡ Some port) × (IsBlocked p (wait_in port) → ⊥)
+
+-- of the first `n` ports those in the set that aren't blocked
+abbrev pub AreFree : Parts → List PortWait → ℕ → ℕ → ℕ → Type 0
+AreFree p ports waiting n ranks = (rank : ℕ) → IsIn ranks rank ↔ ((rank < n) × IsIn waiting rank × IsFree p ports rank)
+
+-- the port of the rank waits for requests, and isn't blocked in that
+pub record IsMet (p : Parts) (waits : List WaitFor) (rank : ℕ) : Type 0 where
+  pub waiting : IsWaiting waits rank
+  pub free : (wait : WaitFor) → slice_get waits rank ≡ Some wait → IsBlocked p wait → ⊥
+
+-- just these ranks' ports wait so
+abbrev pub AreMet : Parts → List WaitFor → ℕ → Type 0
+AreMet p waits ranks = (rank : ℕ) → IsIn ranks rank ↔ IsMet p waits rank
 
 -- an engine with that setting and a port for each rank, whose trace was legal, was stalled at some time, and there the rank's port waited so,
 -- for a request that was Pending

@@ -1,6 +1,7 @@
 -- What ports wait for.
-use Rattle.std.specs.Prelude.{◌≡◌, ◌≤◌, ℕ, Bool, true, List, Some, slice_get, vec_capacity}
+use Rattle.std.specs.Prelude.{◌≡◌, ◌↔◌, ◌≤◌, ℕ, All, Bool, true, List, Some, length, map, slice_get, vec_capacity}
 use Rattle.coll_kinds.specs.declared.ticket.Ticket.{Ticket}
+use Rattle.coll_traced.specs.Ranks.{IsIn}
 use Rattle.coll_traced.specs.declared.port_wait.PortWait.{PortWait}
 use Rattle.coll_traced.specs.declared.waiting.Waiting.{Waiting}
 use Rattle.coll_traced.specs.declared.waiting.Waiting.TheVariants as waiting
@@ -22,6 +23,21 @@ wait_of waiting.Ended tickets = Ended
 abbrev pub wait_in : PortWait → WaitFor
 wait_in port = wait_of port.how port.tickets.items
 
+-- the port waits for requests
+abbrev pub IsForSome : WaitFor → Type 0
+IsForSome Awake = ⊥
+IsForSome (ForOne rank t) = Unit {0}
+IsForSome (ForAny rank ts) = Unit {0}
+IsForSome Ended = ⊥
+
+-- the rank has a port, and that waits for requests
+abbrev pub IsWaiting : List WaitFor → ℕ → Type 0
+IsWaiting waits rank = (wait : WaitFor) × (slice_get waits rank ≡ Some wait) × IsForSome wait
+
+-- just these ranks' ports wait for requests
+abbrev pub AreWaiting : List WaitFor → ℕ → Type 0
+AreWaiting waits ranks = (rank : ℕ) → IsIn ranks rank ↔ IsWaiting waits rank
+
 -- whether the port is marked as stalled
 abbrev pub mark_in : PortWait → Bool
 mark_in port = port.is_stalled
@@ -33,6 +49,12 @@ IsMarked waits marks rank = (wait : WaitFor) × (slice_get waits rank ≡ Some w
 -- there is memory for the tickets of that many requests
 abbrev pub IsRoomy : ℕ → PortWait → Type 0
 IsRoomy slots port = slots ≤ vec_capacity port.tickets
+
+-- there is memory for lists at each of at most 64 ports, and just these ranks' ports wait for requests
+pub record IsKept (slots : ℕ) (ports : List PortWait) (ranks : ℕ) : Type 0 where
+  pub roomy : All (IsRoomy slots) ports
+  pub few : length ports ≤ 64
+  pub waiting : AreWaiting (map wait_in ports) ranks
 
 -- what the ports of an engine wait for
 pub record Waiters : Type 0 where

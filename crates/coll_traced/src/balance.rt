@@ -1,9 +1,9 @@
 //! What a trace says of each rank when the engine is to be closed.
 
-ghost use Rattle.std.specs.Prelude.{◌≡◌, ◌<◌, ◌+◌, ◌^◌, ◌==◌, ◌↔◌, ℕ, IfSome, IsNone, IsTrue, cond, length, slice_index};
+ghost use Rattle.std.specs.Prelude.{◌≡◌, ◌<◌, ◌+◌, ◌^◌, ◌==◌, ◌↔◌, ℕ, Contains, IfSome, IsNone, IsTrue, cond, length, slice_index};
 ghost use Rattle.coll_report.specs.Traces.{caller, completes_by};
 ghost use Rattle.coll_report.specs.Views.{seen, trace_seen};
-ghost use Rattle.coll_traced.specs.Closings.{AreCounts, IsBalanced, begins_by, ends_of, is_rank};
+ghost use Rattle.coll_traced.specs.Closings.{AreCounts, AreEnds, IsBalanced, begins_by, is_rank};
 
 use crate::spent::Spent;
 use crate::tally::Entries;
@@ -106,17 +106,29 @@ fn is_end<L: Entries>(spent: &Spent<L>, rank: u8, made: usize) -> bool
     spent.rank() == rank && spent.made() == made as u64
 }
 
-/// Tells whether `spents` are the ends of one port of each rank, in the order of ranks, each with
-/// as many entries as its rank has in the trace. Linear in the trace.
+/// Tells whether one of `spents` is the end of the rank's port with that many entries.
+fn has_end<L: Entries>(spents: &[Spent<L>], rank: u8, made: usize) -> bool
+    ensures { IsTrue result ↔ Contains spents.now (rank, made) }
+{
+    for spent in spents {
+        if is_end(spent, rank, made) {
+            return true;
+        }
+    }
+    false
+}
+
+/// Tells whether `spents` are the ends of one port of each rank, in any order, each with as many
+/// entries as its rank has in the trace. Linear in the trace, and in the ends for each rank.
 pub(crate) fn are_ends<L: Entries>(entries: &[Entry], ranks: u8, spents: &[Spent<L>]) -> bool
-    ensures { IsTrue result ↔ (spents.now ≡ ends_of ranks (trace_seen entries.now)) }
+    ensures { IsTrue result ↔ AreEnds ranks (trace_seen entries.now) spents.now }
 {
     if spents.len() != ranks as usize {
         return false;
     }
     let made = count_made(entries);
     for rank in 0..ranks {
-        if !is_end(&spents[rank as usize], rank, made[rank as usize]) {
+        if !has_end(spents, rank, made[rank as usize]) {
             return false;
         }
     }

@@ -1,7 +1,7 @@
-ghost use Rattle.std.specs.Prelude.{◌≡◌, [], ◌↔◌, ◌<◌, ◌≤◌, All, Any, IfErr, IfOk, IsTrue, OnErr, OnOk, Some, false, length, vec_capacity};
+ghost use Rattle.std.specs.Prelude.{◌≡◌, [], ◌↔◌, ◌<◌, ◌≤◌, All, Any, IfErr, IfOk, IfSome, IsNone, IsTrue, OnErr, OnOk, Some, false, length, vec_capacity};
 ghost use Rattle.coll_traced.specs.Waits.{Awake, mark_in, wait_in};
 ghost use Rattle.coll_traced.specs.Stalls.{IsBlocked, IsDone, IsHeldUp, IsPending, IsRightlyMarked};
-ghost use Rattle.coll_traced.specs.Awaiting.{one_by, tickets_in};
+ghost use Rattle.coll_traced.specs.Awaiting.{IsListed, NoneIsPending, one_by, tickets_in};
 
 use crate::waiting::Waiting;
 use coll_complete::Request;
@@ -32,14 +32,36 @@ pub(crate) fn is_done(core: &Core, rank: u8, ticket: Ticket) -> bool
 
 /// Tells whether the ticket names a Pending request of the rank.
 fn is_pending(core: &Core, rank: u8, ticket: Ticket) -> bool
-    ensures { IsTrue result → IsPending core.now ticket }
+    ensures { IsTrue result ↔ IsPending core.now rank ticket }
 {
-    matches!(core.phase(rank, ticket), Ok(Phase::Pending))
+    match core.phase(rank, ticket) {
+        Ok(Phase::Idle) => false,
+        Ok(Phase::Pending) => true,
+        Ok(Phase::Done) => false,
+        Err(_) => false,
+    }
+}
+
+/// Returns a Pending request of the rank in the list, if there is one. It is the last one, because
+/// that is mostly the last to become Done, and a port that waits for all should be woken seldom.
+pub(crate) fn last_pending(core: &Core, rank: u8, requests: &[Request]) -> Option<Ticket>
+    ensures listed { IfSome result (IsListed requests.now) }
+    ensures pending { IfSome result (IsPending core.now rank) }
+    ensures none { IsNone result → NoneIsPending core.now rank requests.now }
+{
+    for index in (0..requests.len()).rev() {
+        if let Some(ticket) = requests[index].ticket() {
+            if is_pending(core, rank, ticket) {
+                return Some(ticket);
+            }
+        }
+    }
+    None
 }
 
 /// Tells whether one of the tickets names a Pending request of the rank.
 fn some_is_pending(core: &Core, rank: u8, tickets: &[Ticket]) -> bool
-    ensures { IsTrue result → Any (IsPending core.now) tickets.now }
+    ensures { IsTrue result ↔ Any (IsPending core.now rank) tickets.now }
 {
     tickets.iter().any(|ticket| is_pending(core, rank, *ticket))
 }
@@ -127,7 +149,7 @@ impl PortWait {
 
     /// Tells whether the port waits for a Pending request.
     fn is_held_up(&self, core: &Core) -> bool
-        ensures { IsTrue result → IsHeldUp core.now (wait_in self.now) }
+        ensures { IsTrue result ↔ IsHeldUp core.now (wait_in self.now) }
     {
         match self.how {
             Waiting::Awake => false,

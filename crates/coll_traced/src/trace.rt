@@ -8,7 +8,7 @@ ghost use Rattle.std.specs.Prelude.{◌≡◌, ◌⊎◌, ◌↔◌, ◌+◌, �
 ghost use Rattle.coll_report.specs.Views.{seen, trace_seen};
 ghost use Rattle.coll_traced.specs.Places.{IsLast, NamesLast, place_in};
 ghost use Rattle.coll_traced.specs.Recorded.{IsFilled};
-ghost use Rattle.coll_traced.specs.Closings.{IsBalanced, ends_of};
+ghost use Rattle.coll_traced.specs.Closings.{AreEnds, IsBalanced};
 
 use crate::balance::{are_ends, first_unbalanced};
 use crate::spent::Spent;
@@ -41,7 +41,8 @@ impl<L: Entries> Model for Trace<L> {
 
     ghost view = { λ t. record { entries = trace_seen t.entries.items; reserved = t.reserved; capacity = vec_capacity t.entries } };
 
-    ghost invariant = { λ t. IsRecorded (record { entries = trace_seen t.entries.items; reserved = t.reserved; capacity = vec_capacity t.entries }) t.book.total };
+    ghost invariant = { λ t. IsRecorded
+        (record { entries = trace_seen t.entries.items; reserved = t.reserved; capacity = vec_capacity t.entries }) t.book.total };
 }
 
 /// Returns the entry's place on its communicator; of a start, the number of the start.
@@ -90,7 +91,8 @@ impl<L: Entries> Trace<L> {
         ensures reserved { self.new.reserved ≡ self.old.reserved }
         ensures room { OnOk result (length self.new.entries + self.new.reserved + 2 ≤ self.new.capacity) }
         ensures fits { OnOk result (IsFilled self.old limit → ⊥) }
-        ensures refused { IfErr result (λ why. ((why ≡ Refusal.TraceFull) × IsFilled self.old limit) ⊎ ((IsFilled self.old limit → ⊥) × (why ≡ Refusal.NoMemory))) }
+        ensures refused { IfErr result
+            (λ why. ((why ≡ Refusal.TraceFull) × IsFilled self.old limit) ⊎ ((IsFilled self.old limit → ⊥) × (why ≡ Refusal.NoMemory))) }
     {
         if limit as usize - self.entries.len() - self.reserved < 2 {
             return Err(Refusal::TraceFull);
@@ -177,7 +179,7 @@ impl<L: Entries> Trace<L> {
     /// Tells whether `ends` are the ends of one port of each rank, in the order of ranks, each with
     /// as many entries as its rank has.
     pub(crate) fn has_ends(&self, ranks: u8, ends: &[Spent<L>]) -> bool
-        ensures { IsTrue result ↔ (ends.now ≡ ends_of ranks self.now.entries) }
+        ensures { IsTrue result ↔ AreEnds ranks self.now.entries ends.now }
     {
         are_ends(&self.entries, ranks, ends)
     }

@@ -1,3 +1,6 @@
+ghost use Rattle.std.specs.Prelude.{◌↔◌, [], IsTrue};
+ghost use Rattle.coll_traced.specs.Waits.{IsForSome, wait_of};
+
 use coll_kinds::Ticket;
 
 /// How a port waits.
@@ -15,7 +18,9 @@ pub(crate) enum Waiting {
 
 impl Waiting {
     /// Tells whether the port waits for a request.
-    pub(crate) fn is_for_some(self) -> bool {
+    pub(crate) fn is_for_some(self) -> bool
+        ensures { IsTrue result ↔ IsForSome (wait_of self []) }
+    {
         matches!(self, Waiting::ForOne { .. } | Waiting::ForAny { .. })
     }
 }

@@ -1,8 +1,8 @@
 //! What the ports wait for.
 
-ghost use Rattle.std.specs.Prelude.{◌≡◌, [], ◌↔◌, ◌<◌, ℕ, All, IfErr, IfOk, IsTrue, OnErr, OnOk, false, length, map, replicate, slice_set};
-ghost use Rattle.coll_traced.specs.Waits.{Awake, ForAny, IsMarked, IsRoomy, wait_in, wait_of};
-ghost use Rattle.coll_traced.specs.Stalls.{AreHeldUp, IsBlocked, IsRightlyMarked};
+ghost use Rattle.std.specs.Prelude.{◌≡◌, [], ◌↔◌, ◌<◌, ◌≤◌, ℕ, All, Any, IfErr, IfOk, IsTrue, OnErr, OnOk, false, length, map, replicate, slice_set, true};
+ghost use Rattle.coll_traced.specs.Waits.{AreWaiting, Awake, ForAny, IsMarked, IsRoomy, mark_in, wait_in, wait_of};
+ghost use Rattle.coll_traced.specs.Stalls.{AreFree, AreHeldUp, AreMet, IsBlocked, IsRightlyMarked};
 ghost use Rattle.coll_traced.specs.Awaiting.{one_in, tickets_in};
 
 use crate::port_wait::PortWait;
@@ -20,19 +20,19 @@ use std::marker::Model;
 pub(crate) struct Waits {
     slots: u32,
     ports: Vec<PortWait>,
-    /// The ranks whose ports wait for requests.
+    /// Returns the ranks whose ports wait for requests.
     waiting: Ranks,
 }
 
 impl Model for Waits {
-    ghost use Rattle.coll_traced.specs.Waits.{IsRoomy, Waiters, mark_in, wait_in};
-    ghost use Rattle.std.specs.Prelude.{All, map};
+    ghost use Rattle.coll_traced.specs.Waits.{IsKept, Waiters, mark_in, wait_in};
+    ghost use Rattle.std.specs.Prelude.{map};
 
     ghost Value = { Waiters };
 
     ghost view = { λ n. record { waits = map wait_in n.ports.items; marks = map mark_in n.ports.items; slots = n.slots } };
 
-    ghost invariant = { λ n. All (IsRoomy n.slots) n.ports.items };
+    ghost invariant = { λ n. IsKept n.slots n.ports.items n.waiting };
 }
 
 /// Tells whether each of these ports is blocked in a wait, or has ended.
@@ -40,6 +40,18 @@ fn all_are_blocked(ports: &[PortWait], core: &Core) -> bool
     ensures { IsTrue result ↔ All (λ port. IsBlocked core.now (wait_in port)) ports.now }
 {
     ports.iter().all(|port| port.is_blocked(core))
+}
+
+/// Tells whether one of these ports is marked as deadlocked.
+fn some_is_marked(ports: &[PortWait]) -> bool
+    ensures { IsTrue result ↔ Any (λ port. mark_in port ≡ true) ports.now }
+{
+    for port in ports {
+        if port.is_marked() {
+            return true;
+        }
+    }
+    false
 }
 
 /// Marks each of these ports as deadlocked that waits for a Pending request, and no other.
@@ -53,9 +65,25 @@ fn mark_each(ports: &mut [PortWait], core: &Core)
     }
 }
 
+/// Returns those of the waiting ports that aren't blocked. Linear in the ports, and in what the
+/// waiting ones wait for.
+fn met_of(ports: &[PortWait], waiting: Ranks, core: &Core) -> Ranks
+    requires { length ports.now ≤ 64 }
+    ensures { AreFree core.now ports.now waiting (length ports.now) result }
+{
+    let mut met = Ranks::NONE;
+    for (rank, port) in ports.iter().enumerate() {
+        if waiting.has(rank as u8) && !port.is_blocked(core) {
+            met = met.with(rank as u8);
+        }
+    }
+    met
+}
+
 impl Waits {
     /// Makes the record of `ranks` ports, all awake, on an engine with `slots` slots.
     pub(crate) fn open(alloc: Global, ranks: u8, slots: u32) -> Result<Self, Refusal>
+        requires { ranks ≤ 64 }
         ensures waits { IfOk result (λ new. new.waits ≡ replicate ranks Awake) }
         ensures marks { IfOk result (λ new. new.marks ≡ replicate ranks false) }
         ensures slots { IfOk result (λ new. new.slots ≡ slots) }
@@ -78,8 +106,8 @@ impl Waits {
         ensures marks { self.new.marks ≡ slice_set self.old.marks rank false }
         ensures slots { self.new.slots ≡ self.old.slots }
     {
-        self.waiting = self.waiting.set(rank, how.is_for_some());
         if (rank as usize) < self.ports.len() {
+            self.waiting = self.waiting.set(rank, how.is_for_some());
             self.ports[rank as usize].put(how);
         }
     }
@@ -125,13 +153,15 @@ impl Waits {
     }
 
     /// Tells whether some port is marked as deadlocked and has waited since. Linear in the ports.
-    pub(crate) fn some_is_marked(&self) -> bool {
-        self.ports.iter().any(|port| port.is_marked())
+    pub(crate) fn some_is_marked(&self) -> bool
+        ensures { IsTrue result ↔ Any (λ mark. mark ≡ true) self.now.marks }
+    {
+        some_is_marked(&self.ports)
     }
 
     /// Tells whether the port is marked as deadlocked and has waited since.
     pub(crate) fn is_marked(&self, rank: u8) -> bool
-        ensures { IsTrue result → IsMarked self.now.waits self.now.marks rank }
+        ensures { IsTrue result ↔ IsMarked self.now.waits self.now.marks rank }
     {
         match self.ports.get(usize::from(rank)) {
             Some(port) => port.is_marked(),
@@ -140,14 +170,10 @@ impl Waits {
     }
 
     /// Returns the ranks whose wait is over. Linear in the ports, and in what they wait for.
-    pub(crate) fn met(&self, core: &Core) -> Ranks {
-        let mut met = Ranks::NONE;
-        for (rank, port) in (0..64u8).zip(self.ports.iter()) {
-            if self.waiting.has(rank) && !port.is_blocked(core) {
-                met = met.with(rank);
-            }
-        }
-        met
+    pub(crate) fn met(&self, core: &Core) -> Ranks
+        ensures { AreMet core.now self.now.waits result }
+    {
+        met_of(&self.ports, self.waiting, core)
     }
 
     /// Returns the request that a port waits for, if it waits for exactly one.
@@ -158,7 +184,9 @@ impl Waits {
     }
 
     /// Returns the ranks whose ports wait for requests.
-    pub(crate) fn waiting(&self) -> Ranks {
+    pub(crate) fn waiting(&self) -> Ranks
+        ensures { AreWaiting self.now.waits result }
+    {
         self.waiting
     }
 }

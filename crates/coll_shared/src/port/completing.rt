@@ -164,7 +164,9 @@ impl<L: Entries> Port<L> {
         ensures told { IfOk result (λ r. TestsOne L.setting self.old.made self.old.rank request.old request.new true r.0 r.1) }
         ensures made { IfOk result (λ r. IfSome r.0 (λ outcome. self.new.made ≡ self.old.made + 1)) }
         ensures none { IfOk result (λ r. r.0 ≡ None → self.new.made ≡ self.old.made) }
-        ensures refused { IfErr result (λ why. RefusesOne L.setting self.old.made self.old.rank request.old (Some why) ⊎ (IsHindrance L.setting self.old.rank why × WasPending L.setting self.old.made self.old.rank request.old)) }
+        ensures refused { IfErr result
+            (λ why. RefusesOne L.setting self.old.made self.old.rank request.old (Some why)
+            ⊎ (IsHindrance L.setting self.old.rank why × WasPending L.setting self.old.made self.old.rank request.old)) }
         ensures err { OnErr result ((self.new.made ≡ self.old.made) × (request.new ≡ request.old)) }
     {
         let Some(first) = self.tally.take() else {
@@ -194,7 +196,9 @@ impl<L: Entries> Port<L> {
         ensures told { IfOk result (λ r. TestsAny L.setting self.old.made self.old.rank requests.old requests.new (any_of r.0) r.1) }
         ensures made { IfOk result (λ r. IfSome r.0 (λ at. self.new.made ≡ self.old.made + 1)) }
         ensures none { IfOk result (λ r. r.0 ≡ None → self.new.made ≡ self.old.made) }
-        ensures refused { IfErr result (λ why. RefusesList L.setting self.old.made self.old.rank requests.old (Some why) ⊎ (IsHindrance L.setting self.old.rank why × WasUnfinished L.setting self.old.made self.old.rank requests.old)) }
+        ensures refused { IfErr result
+            (λ why. RefusesList L.setting self.old.made self.old.rank requests.old (Some why)
+            ⊎ (IsHindrance L.setting self.old.rank why × WasUnfinished L.setting self.old.made self.old.rank requests.old)) }
         ensures err { OnErr result ((self.new.made ≡ self.old.made) × (requests.new ≡ requests.old)) }
     {
         let rank = self.rank;
@@ -252,7 +256,9 @@ impl<L: Entries> Port<L> {
         ensures groups { self.new.groups ≡ self.old.groups }
         ensures told { IfOk result (λ r. TestsAll L.setting self.old.made self.old.rank requests.old requests.new out.old.items out.new.items true r) }
         ensures made { IfOk result (λ r. self.new.made + vec_len out.old ≡ self.old.made + vec_len out.new) }
-        ensures refused { IfErr result (λ why. RefusesList L.setting self.old.made self.old.rank requests.old (Some why) ⊎ (IsHindrance L.setting self.old.rank why × HadPending L.setting self.old.made self.old.rank requests.old)) }
+        ensures refused { IfErr result
+            (λ why. RefusesList L.setting self.old.made self.old.rank requests.old (Some why)
+            ⊎ (IsHindrance L.setting self.old.rank why × HadPending L.setting self.old.made self.old.rank requests.old)) }
         ensures err { OnErr result ((self.new.made ≡ self.old.made) × (requests.new ≡ requests.old) × (out.new ≡ out.old)) }
     {
         let rank = self.rank;
@@ -305,7 +311,9 @@ impl<L: Entries> Port<L> {
         ensures some { IfOk result (λ r. IfSome r.0 (λ n. 0 < n)) }
         ensures made { IfOk result (λ r. IfSome r.0 (λ n. self.new.made ≡ self.old.made + n)) }
         ensures inactive { IfOk result (λ r. r.0 ≡ None → self.new.made ≡ self.old.made) }
-        ensures refused { IfErr result (λ why. RefusesList L.setting self.old.made self.old.rank requests.old (Some why) ⊎ (IsHindrance L.setting self.old.rank why × WasUnfinished L.setting self.old.made self.old.rank requests.old)) }
+        ensures refused { IfErr result
+            (λ why. RefusesList L.setting self.old.made self.old.rank requests.old (Some why)
+            ⊎ (IsHindrance L.setting self.old.rank why × WasUnfinished L.setting self.old.made self.old.rank requests.old)) }
         ensures err { OnErr result ((self.new.made ≡ self.old.made) × (requests.new ≡ requests.old) × (out.new ≡ out.old)) }
     {
         let rank = self.rank;

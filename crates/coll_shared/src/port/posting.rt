@@ -76,7 +76,8 @@ impl<L: Entries> Port<L> {
         ensures made { OnOk result (self.new.made ≡ self.old.made + 1) }
         ensures receipt { IfOk result (λ r. IsPosted self.old.rank r.0 comm sig.now bytes r.1) }
         ensures err { OnErr result (self.new.made ≡ self.old.made) }
-        ensures refused { IfErr result (λ refused. IsUnplanned self.old comm sig.now refused.why ⊎ DeniesBytes L.setting self.old comm sig.now bytes refused.why) }
+        ensures refused { IfErr result
+            (λ refused. IsUnplanned self.old comm sig.now refused.why ⊎ DeniesBytes L.setting self.old comm sig.now bytes refused.why) }
         ensures back { IfErr result (λ refused. refused.back ≡ bytes) }
     {
         let plan = match self.ready_plan(comm, sig) {

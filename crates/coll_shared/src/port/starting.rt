@@ -100,8 +100,11 @@ impl<L: Entries> Port<L> {
         ensures starts { OnOk result (PushesStarts self.old.rank (zip requests.now given.items) receipts.old.items receipts.new.items) }
         ensures within { IfErr result (λ halted. halted.at < length requests.now) }
         ensures err { IfErr result (λ halted. self.new.made ≡ self.old.made + halted.at) }
-        ensures before { IfErr result (λ halted. PushesStarts self.old.rank (take halted.at (zip requests.now given.items)) receipts.old.items receipts.new.items) }
-        ensures refused { IfErr result (λ halted. DeniesStart L.setting (self.old.made + halted.at) self.old.rank (slice_index_or requests.now halted.at None) (slice_index_or given.items halted.at []) halted.why) }
+        ensures before { IfErr result
+            (λ halted. PushesStarts self.old.rank (take halted.at (zip requests.now given.items)) receipts.old.items receipts.new.items) }
+        ensures refused { IfErr result
+            (λ halted. DeniesStart L.setting (self.old.made + halted.at) self.old.rank
+            (slice_index_or requests.now halted.at None) (slice_index_or given.items halted.at []) halted.why) }
         ensures back { IfErr result (λ halted. halted.back.items ≡ unused halted.at given.items) }
     {
         for (at, request) in requests.iter().enumerate() {

@@ -3,7 +3,7 @@
 ghost use Rattle.std.specs.Prelude.{◌≡◌, ◌<◌, ℕ, IfSome, IsNone, length};
 ghost use Rattle.coll_machine.specs.Traces.{LegalTrace};
 ghost use Rattle.coll_core.specs.Cores.{seen, setting};
-ghost use Rattle.coll_traced.specs.Closings.{IsBalanced, IsFirstBusy, Objects, ends_of};
+ghost use Rattle.coll_traced.specs.Closings.{AreEnds, IsBalanced, IsFirstBusy, Objects};
 ghost use Rattle.coll_report.specs.Told.{IsIdle};
 
 use crate::replacement::Replacement;
@@ -34,12 +34,12 @@ impl<L: Entries> TracedCore<L> {
     }
 
     /// Returns why the engine can't be closed with these ends of ports, or None. StillActive names
-    /// the lowest rank with an active request. Torn means that `ends` aren't the ends of all ports
-    /// in the order of ranks, or that one made another number of entries than its rank has.
+    /// the lowest rank with an active request. Torn means that `ends` aren't the ends of all ports,
+    /// or that one made another number of entries than its rank has. They may come in any order.
     pub fn objection(&self, ends: &[Spent<L>]) -> Option<Refusal>
         ensures idle { IsNone result → IsIdle (seen self.now.core).state }
         ensures balanced { IsNone result → (r : ℕ) → r < L.setting.ranks → IsBalanced r self.now.entries }
-        ensures ends { IsNone result → ends.now ≡ ends_of (setting self.now.core).ranks self.now.entries }
+        ensures ends { IsNone result → AreEnds (setting self.now.core).ranks self.now.entries ends.now }
         ensures refused { IfSome result (Objects self.now ends.now) }
         ensures setting { setting self.now.core ≡ L.setting }
         ensures legal { LegalTrace L.setting self.now.entries (seen self.now.core).state }
@@ -68,7 +68,7 @@ impl<L: Entries> TracedCore<L> {
         let Replacement { config, core } = replacement;
         let entries = self.trace.take(self.alloc, all);
         let config = mem::replace(&mut self.config, config);
-        self.core = core;
-        Report::new(config, entries)
+        let core = mem::replace(&mut self.core, core);
+        Report::new(core, config, entries)
     }
 }

@@ -33,7 +33,8 @@ impl<L: Entries> Model for Completed<L> {
 
     ghost view = { λ c. record { rank = c.rank; ticket = c.ticket; made = c.made; entry = retired c.rank c.ticket c.outcome } };
 
-    ghost invariant = { λ c. TestsOne L.setting c.made c.rank (Some c.ticket) (left_by c.stays c.ticket) true (Some c.outcome) (retired c.rank c.ticket c.outcome ∷ []) };
+    ghost invariant = { λ c. TestsOne L.setting c.made c.rank (Some c.ticket) (left_by c.stays c.ticket) true (Some c.outcome)
+        (retired c.rank c.ticket c.outcome ∷ []) };
 }
 
 /// Returns what is left of a completed request.

@@ -31,8 +31,10 @@ impl<L: Entries> TracedCore<L> {
     ) -> Result<Option<(Outcome, Receipt)>, Refusal>
         ensures setting { setting self.new.core ≡ setting self.old.core }
         ensures waits { (self.new.waits ≡ self.old.waits) × (self.new.stalled ≡ self.old.stalled) }
-        ensures pending { IfOk result (λ found. IsNone found → MachineStep (setting self.old.core) (seen self.old.core) (Retire rank ticket) Nothing (seen self.new.core)) }
-        ensures completes { IfOk result (λ found. IfSome found (λ r. MachineStep (setting self.old.core) (seen self.old.core) (Retire rank ticket) (outcome_of r.0) (seen self.new.core))) }
+        ensures pending { IfOk result
+            (λ found. IsNone found → MachineStep (setting self.old.core) (seen self.old.core) (Retire rank ticket) Nothing (seen self.new.core)) }
+        ensures completes { IfOk result
+            (λ found. IfSome found (λ r. MachineStep (setting self.old.core) (seen self.old.core) (Retire rank ticket) (outcome_of r.0) (seen self.new.core))) }
         ensures entry { IfOk result (λ found. IfSome found (λ r. self.new.entries ≡ self.old.entries ++ r.1 ∷ [])) }
         ensures receipt { IfOk result (λ found. IfSome found (λ r. r.1 ≡ retired rank ticket r.0)) }
         ensures counted { IfOk result (λ found. IfSome found (λ r. mine.new ≡ mine.old + 1)) }

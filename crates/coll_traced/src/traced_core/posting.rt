@@ -117,7 +117,8 @@ impl<L: Entries> TracedCore<L> {
     ) -> Result<(Ticket, Receipt), Refused<Plan>>
         ensures setting { setting self.new.core ≡ setting self.old.core }
         ensures waits { (self.new.waits ≡ self.old.waits) × (self.new.stalled ≡ self.old.stalled) }
-        ensures made { IfOk result (λ r. MachineStep (setting self.old.core) (seen self.old.core) (init_of rank comm plan) (Ticketed r.0) (seen self.new.core)) }
+        ensures made { IfOk result
+            (λ r. MachineStep (setting self.old.core) (seen self.old.core) (init_of rank comm plan) (Ticketed r.0) (seen self.new.core)) }
         ensures progress { IfOk result (λ r. KeepsProgress self.old.core self.new.core r.0.slot) }
         ensures entry { IfOk result (λ r. self.new.entries ≡ self.old.entries ++ r.1 ∷ []) }
         ensures receipt { IfOk result (λ r. (place : ℕ) × (r.1 ≡ Inited rank r.0 comm place plan.sig)) }

@@ -1,9 +1,9 @@
 //! Who waits, and whether the engine is deadlocked.
 
-ghost use Rattle.std.specs.Prelude.{◌≡◌, [], ◌↔◌, IsTrue, false, slice_set};
+ghost use Rattle.std.specs.Prelude.{◌≡◌, [], ◌↔◌, Any, IsTrue, false, slice_set, true};
 ghost use Rattle.std.specs.Bool.{OnFalse, OnTrue};
-ghost use Rattle.coll_traced.specs.Waits.{Awake, Ended};
-ghost use Rattle.coll_traced.specs.Stalls.{AreHeldUp, IsStalled, WasStalled};
+ghost use Rattle.coll_traced.specs.Waits.{AreWaiting, Awake, Ended, IsMarked};
+ghost use Rattle.coll_traced.specs.Stalls.{AreHeldUp, AreMet, IsStalled, WasStalled};
 
 use crate::ranks::Ranks;
 use crate::tally::Entries;
@@ -22,6 +22,7 @@ impl<L: Entries> TracedCore<L> {
 
     /// Tells whether a deadlock was found while the rank's port waited for what it waits for now.
     pub fn is_stalled(&self, rank: u8) -> bool
+        ensures marked { IsTrue result ↔ IsMarked self.now.waits self.now.stalled rank }
         ensures told { IsTrue result → WasStalled L.setting rank }
     {
         self.waits.is_marked(rank)
@@ -47,7 +48,9 @@ impl<L: Entries> TracedCore<L> {
     }
 
     /// Tells whether a port still waits that was marked at a deadlock. Linear in the ports.
-    pub fn some_is_marked(&self) -> bool {
+    pub fn some_is_marked(&self) -> bool
+        ensures { IsTrue result ↔ Any (λ mark. mark ≡ true) self.now.stalled }
+    {
         self.waits.some_is_marked()
     }
 
@@ -72,12 +75,16 @@ impl<L: Entries> TracedCore<L> {
     }
 
     /// Returns the ranks whose wait is over. Linear in the ports.
-    pub fn met(&self) -> Ranks {
+    pub fn met(&self) -> Ranks
+        ensures { AreMet self.now.core self.now.waits result }
+    {
         self.waits.met(&self.core)
     }
 
     /// Returns the ranks whose ports wait for requests.
-    pub fn waiting(&self) -> Ranks {
+    pub fn waiting(&self) -> Ranks
+        ensures { AreWaiting self.now.waits result }
+    {
         self.waits.waiting()
     }
 }

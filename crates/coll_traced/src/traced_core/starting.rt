@@ -40,7 +40,8 @@ impl<L: Entries> TracedCore<L> {
         ensures waits { (self.new.waits ≡ self.old.waits) × (self.new.stalled ≡ self.old.stalled) }
         ensures starts { OnOk result (StepsTo (setting self.old.core) (seen self.old.core) (Start rank ticket bytes) Nothing (seen self.new.core)) }
         // No request makes progress but this one, which begins its schedule.
-        ensures begins { OnOk result (IfSome (record_in self.old.core.arena ticket.slot) (λ x. BeginsSchedule self.old.core self.new.core ticket.slot (schedule (shown x)))) }
+        ensures begins { OnOk result
+            (IfSome (record_in self.old.core.arena ticket.slot) (λ x. BeginsSchedule self.old.core self.new.core ticket.slot (schedule (shown x)))) }
         ensures entry { IfOk result (λ receipt. self.new.entries ≡ self.old.entries ++ receipt ∷ []) }
         ensures receipt { IfOk result (λ receipt. (start : ℕ) × (receipt ≡ Started rank ticket start bytes)) }
         ensures counted { OnOk result (mine.new ≡ mine.old + 1) }

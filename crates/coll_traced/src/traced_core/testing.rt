@@ -2,7 +2,8 @@
 //! state is that of `coll_complete`'s call. `TracedCore::audit` shows that the trace has the
 //! entries of the caller's tally.
 
-ghost use Rattle.std.specs.Prelude.{◌≡◌, ◌+◌, ◌≤◌, ◌∷◌, ◌++◌, [], IfOk, IfSome, None, OnErr, OnOk, drop, false, is_some, length, not, position, vec_capacity, vec_len};
+ghost use Rattle.std.specs.Prelude.{◌≡◌, ◌+◌, ◌≤◌, ◌∷◌, ◌++◌, [], IfOk, IfSome, None, OnErr, OnOk, drop, false, is_some, length, not, position};
+ghost use Rattle.std.specs.Prelude.{vec_capacity, vec_len};
 ghost use Rattle.std.specs.List.{list_any};
 ghost use Rattle.std.specs.Result.{result_err};
 ghost use Rattle.coll_core.specs.Cores.{seen, setting};
@@ -131,7 +132,8 @@ impl<L: Entries> TracedCore<L> {
         ensures appended { IfOk result (λ r. self.new.entries ≡ self.old.entries ++ r.1) }
         ensures told { IfOk result (λ r. TestsAll L.setting mine.old rank requests.old requests.new out.old.items out.new.items r.0 r.1) }
         ensures counted { IfOk result (λ r. mine.new + vec_len out.old ≡ mine.old + vec_len out.new) }
-        ensures unfinished { IfOk result (λ r. r.0 ≡ false → (self.new ≡ self.old) × (requests.new ≡ requests.old) × (out.new ≡ out.old) × (mine.new ≡ mine.old)) }
+        ensures unfinished { IfOk result
+            (λ r. r.0 ≡ false → (self.new ≡ self.old) × (requests.new ≡ requests.old) × (out.new ≡ out.old) × (mine.new ≡ mine.old)) }
         ensures pending { IfOk result (λ r. r.0 ≡ false → HadPending L.setting mine.old rank requests.old) }
         ensures refusal { result_err result ≡ list_refusal (setting self.old.core) (seen self.old.core).state rank requests.old }
         ensures refused { RefusesList L.setting mine.old rank requests.old (result_err result) }

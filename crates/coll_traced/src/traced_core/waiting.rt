@@ -1,24 +1,24 @@
 //! What a waiting port asks: whether its wait is over, and else what to note for it.
 
-ghost use Rattle.std.specs.Prelude.{◌≡◌, ◌+◌, ◌<◌, ◌≤◌, ◌∷◌, ◌++◌, [], IfErr, IfOk, IfSome, IsNone, None, OnErr, Some, false, length, slice_set, true, vec_capacity, vec_len};
+ghost use Rattle.std.specs.Prelude.{◌≡◌, ◌+◌, ◌<◌, ◌≤◌, ◌∷◌, ◌++◌, [], IfErr, IfOk, IfSome, IsNone, None, OnErr, Some, false, length, slice_set};
+ghost use Rattle.std.specs.Prelude.{true, vec_capacity, vec_len};
 ghost use Rattle.std.specs.Bool.{OnTrue};
 ghost use Rattle.std.specs.Result.{result_err};
 ghost use Rattle.coll_core.specs.Cores.{seen, setting};
-ghost use Rattle.coll_core.specs.Phases.{phase_in};
-ghost use Rattle.coll_core.specs.declared.phase.Phase.TheVariants.{Pending};
 ghost use Rattle.coll_complete.specs.Requests.{AreDistinct, list_refusal};
-ghost use Rattle.coll_traced.specs.Awaiting.{IsListed, IsUnfinished, IsUnmet, NeedsNoWait, WaitsFor, one_in};
+ghost use Rattle.coll_traced.specs.Awaiting.{IsUnfinished, IsUnmet, NeedsNoWait, WaitsFor, one_in};
 ghost use Rattle.coll_traced.specs.Tests.{RefusesList, RefusesOne, TestsAll, TestsAny, TestsOne, TestsSome, any_of};
 ghost use Rattle.coll_traced.specs.Unfinished.{WasUnfinished};
 ghost use Rattle.coll_traced.specs.Waits.{Awake, ForOne};
 
 use crate::awaited::Awaited;
+use crate::port_wait::last_pending;
 use crate::tally::{Entries, Tally};
 use crate::trace::Receipts;
 use crate::traced_core::{Completed, TracedCore};
 use crate::waiting::Waiting;
 use coll_complete::{Any, Request, Survey};
-use coll_core::{Outcome, Phase};
+use coll_core::Outcome;
 use coll_kinds::{Refusal, Ticket};
 
 impl<L: Entries> TracedCore<L> {
@@ -35,13 +35,15 @@ impl<L: Entries> TracedCore<L> {
         requires distinct { AreDistinct requests.old }
         requires room { vec_len out.old + length requests.old ≤ vec_capacity out.old }
         ensures waits { (self.new.waits ≡ self.old.waits) × (self.new.stalled ≡ self.old.stalled) }
-        ensures told { IfOk result (λ found. IfSome found (λ r. TestsSome L.setting mine.old rank requests.old requests.new out.old.items out.new.items r.0 r.1)) }
+        ensures told { IfOk result
+            (λ found. IfSome found (λ r. TestsSome L.setting mine.old rank requests.old requests.new out.old.items out.new.items r.0 r.1)) }
         ensures some { IfOk result (λ found. IfSome found (λ r. IfSome r.0 (λ n. 0 < n))) }
         ensures counted { IfOk result (λ found. IfSome found (λ r. IfSome r.0 (λ n. mine.new ≡ mine.old + n))) }
         ensures inactive { IfOk result (λ found. IfSome found (λ r. r.0 ≡ None → mine.new ≡ mine.old)) }
         ensures unfinished { IfOk result (λ found. IsNone found → IsUnfinished (seen self.old.core) requests.old) }
         ensures moment { IfOk result (λ found. IsNone found → WasUnfinished L.setting mine.old rank requests.old) }
-        ensures pending { IfOk result (λ found. IsNone found → (self.new ≡ self.old) × (requests.new ≡ requests.old) × (out.new ≡ out.old) × (mine.new ≡ mine.old)) }
+        ensures pending { IfOk result
+            (λ found. IsNone found → (self.new ≡ self.old) × (requests.new ≡ requests.old) × (out.new ≡ out.old) × (mine.new ≡ mine.old)) }
         ensures refusal { result_err result ≡ list_refusal (setting self.old.core) (seen self.old.core).state rank requests.old }
         ensures refused { IfErr result (λ why. RefusesList L.setting mine.old rank requests.old (Some why)) }
         ensures err { OnErr result ((requests.new ≡ requests.old) × (out.new ≡ out.old) × (mine.new ≡ mine.old)) }
@@ -58,23 +60,6 @@ impl<L: Entries> TracedCore<L> {
             Ok(answer) => Ok(Some(answer)),
             Err(why) => Err(why),
         }
-    }
-
-    /// Returns a Pending request of the rank in the list, if there is one. It is the last one,
-    /// because that is mostly the last to become Done, and a port that waits for all should be
-    /// woken seldom.
-    fn last_pending(&self, rank: u8, requests: &[Request]) -> Option<Ticket>
-        ensures listed { IfSome result (IsListed requests.now) }
-        ensures pending { IfSome result (λ ticket. phase_in (seen self.now.core) ticket ≡ Some Pending) }
-    {
-        for request in requests.iter().rev() {
-            if let Some(ticket) = request.ticket() {
-                if let Ok(Phase::Pending) = self.core.phase(rank, ticket) {
-                    return Some(ticket);
-                }
-            }
-        }
-        None
     }
 
     /// Notes that a port waits until the request is Done. Returns whether there is a request.
@@ -105,7 +90,7 @@ impl<L: Entries> TracedCore<L> {
         ensures core { self.new.core ≡ self.old.core }
         ensures entries { self.new.entries ≡ self.old.entries }
         ensures waits { IfOk result (λ waits. waits ≡ true → WaitsFor (seen self.old.core) rank awaited.entry self.old.waits self.new.waits) }
-        ensures needless { IfOk result (λ waits. waits ≡ false → NeedsNoWait awaited.entry) }
+        ensures needless { IfOk result (λ waits. waits ≡ false → NeedsNoWait self.old.core rank awaited.entry) }
         ensures unmarked { IfOk result (λ waits. waits ≡ true → self.new.stalled ≡ slice_set self.old.stalled rank false) }
         ensures refused { IfErr result (λ why. why ≡ Refusal.NoMemory) }
         ensures err { OnErr result (self.new.waits ≡ slice_set self.old.waits rank Awake) }
@@ -113,7 +98,7 @@ impl<L: Entries> TracedCore<L> {
         match awaited {
             Awaited::One(request) => Ok(self.note_one(rank, request.ticket())),
             Awaited::All(requests) => {
-                let last = self.last_pending(rank, requests);
+                let last = last_pending(&self.core, rank, requests);
                 Ok(self.note_one(rank, last))
             }
             Awaited::Any(requests) => {

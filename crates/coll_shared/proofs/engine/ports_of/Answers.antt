@@ -12,5 +12,6 @@ loop-rank-preserved g c =
       search rules,
       search rules,
       search rules,
-      c.push_reserved.ensures.items ∙ ((λ z. was.4 z ++ one z ∷ []) ∙ sym (map-range_with_len_more (opened groups) 0 c.loop-rank.rank c.loop-rank.rank (omega arith))),
+      c.push_reserved.ensures.items
+          ∙ ((λ z. was.4 z ++ one z ∷ []) ∙ sym (map-range_with_len_more (opened groups) 0 c.loop-rank.rank c.loop-rank.rank (omega arith))),
     )

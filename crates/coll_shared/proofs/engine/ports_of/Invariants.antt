@@ -5,4 +5,5 @@ use Rattle.coll_shared.proofs.engine.ports_of.Given as goal
 
 abbrev pub invariant-loop-rank : goal.invariant-loop-rank
 invariant-loop-rank g l =
-    (l.shares.parts + l.rank ≡ l.ranks) × (l.shares.amount ≡ 0) × (vec_len l.ports ≡ l.rank) × (l.ranks ≤ vec_capacity l.ports) × (l.ports.items ≡ map (opened l.communicators) (range_with_len 0 l.rank))
+    (l.shares.parts + l.rank ≡ l.ranks) × (l.shares.amount ≡ 0) × (vec_len l.ports ≡ l.rank) × (l.ranks ≤ vec_capacity l.ports)
+    × (l.ports.items ≡ map (opened l.communicators) (range_with_len 0 l.rank))

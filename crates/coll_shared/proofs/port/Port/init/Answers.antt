@@ -10,7 +10,8 @@ pub returns-clause-receipt : goal.returns-clause-receipt
 returns-clause-receipt g c =
     let plan = c.args.plan in
     let rank = ap (λ (p : Holding). p.rank) c.self.view_is in
-    let made = subst (λ k. IfOk c.init-made.result (λ m. IsInited k (Some m.0) c.args.comm plan.sig m.1)) rank (inited _ _ _ c.init-made.result c.init-made.ensures.receipt) in
+    let made = subst (λ k. IfOk c.init-made.result (λ m. IsInited k (Some m.0) c.args.comm plan.sig m.1)) rank
+    (inited _ _ _ c.init-made.result c.init-made.ensures.receipt) in
     elim c.match-made.branch [
       | in-Ok w ↦
           held_told (λ q e. IsInited c.args.self.now.rank q c.args.comm plan.sig e) c.init-made.result c.match-made.result

@@ -10,7 +10,8 @@ pub returns-clause-receipt : goal.returns-clause-receipt
 returns-clause-receipt g c =
     let offer = c.args.offer in
     let rank = ap (λ (p : Holding). p.rank) c.self.view_is in
-    let posted = subst (λ k. IfOk c.post-tally.result.1 (λ m. IsPosted k (Some m.0) c.args.comm offer.plan.sig offer.bytes m.1)) rank c.post-tally.ensures.posted in
+    let posted =
+    subst (λ k. IfOk c.post-tally.result.1 (λ m. IsPosted k (Some m.0) c.args.comm offer.plan.sig offer.bytes m.1)) rank c.post-tally.ensures.posted in
     elim c.match-posted.branch [
       | in-Ok w ↦
           held_told (λ q e. IsPosted c.args.self.now.rank q c.args.comm offer.plan.sig offer.bytes e) c.post-tally.result.1

@@ -19,5 +19,7 @@ returns-in-Err-post-clause-refused g c =
       n_is = c.in-Ok.ensures.n;
       member_is = c.in-Ok.ensures.member;
       bytes_are = refl;
-      denied = subst (λ (p : Holding). IsDenied g.L.Entries.setting p.made (post_of p.rank c.args.comm (record { plan = c.in-Ok.plan; bytes = c.args.bytes })) c.in-Err-post.refused.why) c.ready_plan.ensures.same c.in-Err-post.ensures.refused;
+      denied = subst (λ (p : Holding). IsDenied g.L.Entries.setting p.made
+          (post_of p.rank c.args.comm (record { plan = c.in-Ok.plan; bytes = c.args.bytes })) c.in-Err-post.refused.why)
+          c.ready_plan.ensures.same c.in-Err-post.ensures.refused;
     })

@@ -14,4 +14,14 @@ last-requires g c =
 
 pub returns-in-Err-clause-refused : goal.returns-in-Err-clause-refused
 returns-in-Err-clause-refused g c =
-    λ _. (c.in-Err.field-0.why, record { at = c.audit.new.self; setting_is = c.audit.ensures.setting; moment = c.audit.ensures.moment; denies = subst (λ (o : Offer). Denies c.audit.new.self (post_of c.args.rank c.args.self.comm o) c.in-Err.field-0.why) c.of-prepared.ensures.same c.in-Err.ensures.refused })
+    λ _. (
+      c.in-Err.field-0.why,
+      record {
+        at = c.audit.new.self;
+        setting_is = c.audit.ensures.setting;
+        moment = c.audit.ensures.moment;
+        denies =
+            subst (λ (o : Offer). Denies c.audit.new.self (post_of c.args.rank c.args.self.comm o) c.in-Err.field-0.why)
+            c.of-prepared.ensures.same c.in-Err.ensures.refused;
+      },
+    )

@@ -7,10 +7,16 @@ use Rattle.coll_traced.specs.Recorded.{Recorded}
 use Rattle.coll_traced.proofs.trace.Trace.first_unbalanced.Goals as goal
 
 pub returns-clause-none : goal.returns-clause-none
-returns-clause-none g c = subst (λ (es : List Entry). IsNone c.first_unbalanced.result → (r : ℕ) → r < c.args.ranks → IsBalanced r es) (ap trace_seen c.deref.ensures.value ∙ ap (λ (t : Recorded). t.entries) c.self.view_is) c.first_unbalanced.ensures.none
+returns-clause-none g c =
+    subst (λ (es : List Entry). IsNone c.first_unbalanced.result → (r : ℕ) → r < c.args.ranks → IsBalanced r es)
+    (ap trace_seen c.deref.ensures.value ∙ ap (λ (t : Recorded). t.entries) c.self.view_is) c.first_unbalanced.ensures.none
 
 pub returns-clause-some : goal.returns-clause-some
-returns-clause-some g c = subst (λ (es : List Entry). IfSome c.first_unbalanced.result (λ rank. IsBalanced rank es → ⊥)) (ap trace_seen c.deref.ensures.value ∙ ap (λ (t : Recorded). t.entries) c.self.view_is) c.first_unbalanced.ensures.some
+returns-clause-some g c =
+    subst (λ (es : List Entry). IfSome c.first_unbalanced.result (λ rank. IsBalanced rank es → ⊥))
+    (ap trace_seen c.deref.ensures.value ∙ ap (λ (t : Recorded). t.entries) c.self.view_is) c.first_unbalanced.ensures.some
 
 pub returns-clause-first : goal.returns-clause-first
-returns-clause-first g c = subst (λ (es : List Entry). IfSome c.first_unbalanced.result (λ rank. (r : ℕ) → r < rank → IsBalanced r es)) (ap trace_seen c.deref.ensures.value ∙ ap (λ (t : Recorded). t.entries) c.self.view_is) c.first_unbalanced.ensures.first
+returns-clause-first g c =
+    subst (λ (es : List Entry). IfSome c.first_unbalanced.result (λ rank. (r : ℕ) → r < rank → IsBalanced r es))
+    (ap trace_seen c.deref.ensures.value ∙ ap (λ (t : Recorded). t.entries) c.self.view_is) c.first_unbalanced.ensures.first

@@ -7,8 +7,11 @@ use Rattle.coll_traced.proofs.traced_core.TracedCore.commit_short.Goals as goal
 
 pub invariant_of-self : goal.invariant_of-self
 invariant_of-self g c =
-    let s = c.self.inside in
-    (commit_ended s.config s.core c.commit_short.new.self s.trace.entries s.trace.reserved c.args.done c.commit_short.result c.self.invariant.0 c.commit_short.ensures.steps c.commit_short.ensures.err, c.self.invariant.1)
+    let s = c.self.inside in (
+      commit_ended s.config s.core c.commit_short.new.self s.trace.entries s.trace.reserved c.args.done c.commit_short.result
+          c.self.invariant.0 c.commit_short.ensures.steps c.commit_short.ensures.err,
+      c.self.invariant.1,
+    )
 
 pub returns-clause-out : goal.returns-clause-out
 returns-clause-out g c = subst (λ (h : Traced). IsTrue (is_ok c.commit_short.result) ↔ IsOut h.core c.args.done.piece) c.self.view_is c.commit_short.ensures.out

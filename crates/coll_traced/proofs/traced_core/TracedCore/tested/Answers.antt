@@ -3,11 +3,13 @@ use Rattle.coll_traced.proofs.traced_core.TracedCore.tested.Goals as goal
 
 pub returns-in-Ok-clause-refused : goal.returns-in-Ok-clause-refused
 returns-in-Ok-clause-refused g c =
-    refuses_one _ c.args.self.now c.args.mine.now c.args.rank c.args.request.now _ (c.keeps_legal.ensures.setting, c.keeps_legal.ensures.legal, c.requires) c.in-Ok.ensures.refused
+    refuses_one _ c.args.self.now c.args.mine.now c.args.rank c.args.request.now _
+    (c.keeps_legal.ensures.setting, c.keeps_legal.ensures.legal, c.requires) c.in-Ok.ensures.refused
 
 pub returns-in-Err-clause-refused : goal.returns-in-Err-clause-refused
 returns-in-Err-clause-refused g c =
-    refuses_one _ c.args.self.now c.args.mine.now c.args.rank c.args.request.now _ (c.keeps_legal.ensures.setting, c.keeps_legal.ensures.legal, c.requires) c.in-Err.ensures.refused
+    refuses_one _ c.args.self.now c.args.mine.now c.args.rank c.args.request.now _
+    (c.keeps_legal.ensures.setting, c.keeps_legal.ensures.legal, c.requires) c.in-Err.ensures.refused
 
 pub returns-in-Ok-clause-told : goal.returns-in-Ok-clause-told
 returns-in-Ok-clause-told g c =

@@ -3,17 +3,20 @@ use Rattle.coll_traced.proofs.traced_core.TracedCore.tested_any.Goals as goal
 
 pub returns-in-Ok-clause-refused : goal.returns-in-Ok-clause-refused
 returns-in-Ok-clause-refused g c =
-    refuses_list _ c.args.self.now c.args.mine.now c.args.rank c.args.requests.now _ (c.keeps_legal.ensures.setting, c.keeps_legal.ensures.legal, c.requires) c.in-Ok.ensures.refused
+    refuses_list _ c.args.self.now c.args.mine.now c.args.rank c.args.requests.now _
+    (c.keeps_legal.ensures.setting, c.keeps_legal.ensures.legal, c.requires) c.in-Ok.ensures.refused
 
 pub returns-in-Err-clause-refused : goal.returns-in-Err-clause-refused
 returns-in-Err-clause-refused g c =
-    refuses_list _ c.args.self.now c.args.mine.now c.args.rank c.args.requests.now _ (c.keeps_legal.ensures.setting, c.keeps_legal.ensures.legal, c.requires) c.in-Err.ensures.refused
+    refuses_list _ c.args.self.now c.args.mine.now c.args.rank c.args.requests.now _
+    (c.keeps_legal.ensures.setting, c.keeps_legal.ensures.legal, c.requires) c.in-Err.ensures.refused
 
 pub returns-in-Ok-clause-told : goal.returns-in-Ok-clause-told
 returns-in-Ok-clause-told g c =
     let e = c.in-Ok.ensures in
     tests_any _ c.args.self.now c.test_any_on.new.core c.args.mine.now c.test_any_on.new.own c.args.rank c.args.requests.now
-    c.test_any_on.new.requests _ _ _ (c.keeps_legal.ensures.setting, c.keeps_legal.ensures.legal, c.requires) e.refused e.undefined e.lowest e.completes e.requests
+    c.test_any_on.new.requests _ _ _ (c.keeps_legal.ensures.setting, c.keeps_legal.ensures.legal, c.requires) e.refused
+    e.undefined e.lowest e.completes e.requests
     c.moment-before.ensures c.since.ensures
 
 pub returns-in-Ok-clause-counted : goal.returns-in-Ok-clause-counted

@@ -7,7 +7,8 @@ use Rattle.coll_traced.proofs.traced_core.TracedCore.waited_some.Goals.{else-sur
 
 pub returns-in-Err-clause-refused : goal.returns-in-Err-clause-refused
 returns-in-Err-clause-refused g c =
-    refuses_list _ c.args.self.now c.args.mine.now c.args.rank c.args.requests.now _ (c.keeps_legal.ensures.setting, c.keeps_legal.ensures.legal, c.requires.made) c.in-Err.ensures.refused
+    refuses_list _ c.args.self.now c.args.mine.now c.args.rank c.args.requests.now _
+    (c.keeps_legal.ensures.setting, c.keeps_legal.ensures.legal, c.requires.made) c.in-Err.ensures.refused
 
 pub returns-in-Ok-tested_some-clause-some : goal.returns-in-Ok-tested_some-clause-some
 returns-in-Ok-tested_some-clause-some g c =

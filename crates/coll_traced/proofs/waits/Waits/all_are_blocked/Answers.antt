@@ -9,5 +9,6 @@ pub returns : goal.returns
 returns c =
     let s = c.self.inside in
     let p = c.args.core.now in
-    let told = subst (λ ports. IsTrue c.all_are_blocked.result ↔ All (λ port. IsBlocked p (wait_in port)) ports) c.deref.ensures.value c.all_are_blocked.ensures in
+    let told = subst (λ ports. IsTrue c.all_are_blocked.result ↔ All (λ port. IsBlocked p (wait_in port)) ports)
+    c.deref.ensures.value c.all_are_blocked.ensures in
     all-waits (IsBlocked p) s.ports.items _ s.slots c.args.self.now (IsTrue c.all_are_blocked.result) c.self.view_is told
