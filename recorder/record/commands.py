@@ -2,6 +2,7 @@
 differs among commands of one kind; a command is made of these when it is asked for."""
 
 import bisect
+import os
 from array import array
 
 
@@ -45,13 +46,20 @@ class Commands:
 
     def __init__(self, path):
         self.path, self.file, self.kinds = path, None, []
-        self.codes, self.offsets = array("I"), array("Q")
+        self.codes, self.offsets = array("I"), array(self.offset_type())
         # Of a call its place in the order of its context, of a message its place among those alike, of another command how many requests were
         # made before it.
         self.extra = array("I")
         self.requests = array("I")  # the positions of the commands that made requests of collectives
         self.messages = array("I")  # and of messages
         self.refused = {}  # the errors of the calls that the library refused, by their positions
+
+    def offset_type(self):
+        """Of four bytes, where these suffice, also if the program still writes."""
+        try:
+            return "I" if os.path.getsize(self.path) < 1 << 31 else "Q"
+        except OSError:
+            return "Q"  # whoever opens it says why it can't be read
 
     def __len__(self):
         return len(self.codes)

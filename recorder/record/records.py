@@ -1,12 +1,14 @@
 """What the recorder wrote: a file of calls for each rank, rank.R, as log.c, calls.c and types.c write them."""
 
 import collections
+import itertools
 import os
 import re
 import struct
 import subprocess
 
 from commands import Calls, Commands, Kind, Requests, Row, Shared
+from repeats import add_steps, repeated_step, times_repeated
 
 
 class Unreadable(Exception):
@@ -30,6 +32,9 @@ FORMS = ("b", "n", "p", "i")
 NO_TYPE = Type("byte", 0, False, 0, (), True)
 
 NEWLINE, AT, PERCENT, HASH, PLUS, EQUALS, MINUS = b"\n@%#+=-"
+
+# After how many lines a step of a loop is looked for, which repeats itself.
+AT_ONCE = 1 << 11
 
 # How many of the calls that the library refused are kept with their words.
 MOST_REFUSED = 16
@@ -79,15 +84,28 @@ class Record:
 
     def read(self, file):
         """Reads all lines. The file of a program that was killed has zeros after its last line, or a part of a line."""
-        offset = file.tell()
-        place, thread, remarks, known, spots = None, 0, [], self.kinds_at(None, 0), {}
+        offset, state = file.tell(), (None, 0, [], self.kinds_at(None, 0), {})
+        while state:
+            before = offset
+            offset, state = self.read_some(itertools.islice(file, AT_ONCE), offset, *state)
+            state = state if offset > before else None
+            step = repeated_step(self, file, offset) if state and not state[2] else None
+            if step:
+                times = times_repeated(file, offset, step.text)
+                add_steps(self, step, times)
+                self.line += times * step.lines
+                offset = file.seek(offset + times * len(step.text))
+        self.seen.clear()
+
+    def read_some(self, lines, offset, place, thread, remarks, known, spots):
+        """Reads some lines. Gives where they end, and what the next ones need, or None behind the last line."""
         made, persistent = self.commands.requests, self.persistent
-        for self.line, line in enumerate(file, 2):
+        for self.line, line in enumerate(lines, self.line + 1):
             first = line[0]
             if first == AT and line in spots:
                 place, known = spots[line]
             elif line[-1] != NEWLINE or not first:
-                break
+                return offset, None
             elif line.startswith(b"call "):
                 body = line.partition(b" : ")[0]
                 kind = known.get(body) if not remarks else None
@@ -116,7 +134,7 @@ class Record:
             else:
                 remarks = self.read_rare(line, place, thread, remarks, known, offset)
             offset += len(line)
-        self.seen.clear()
+        return offset, (place, thread, remarks, known, spots)
 
     def read_rare(self, line, place, thread, remarks, known, offset):
         """A line of another kind; returns the remarks that wait for the next command."""

@@ -133,7 +133,7 @@ class Stalls:
             lane.rise()
 
     def alike_row(self, record, numbers):
-        """A number for each command: equal ones do the same. Starts are left to the run."""
+        """A number for each command but messages: equal ones do the same. Starts are left to the run."""
         of_kind = []
         for kind in record.commands.kinds:
             if kind.word in ("start", "free") or kind.call and kind.call.form == "p":
@@ -141,13 +141,12 @@ class Stalls:
             elif kind.call:
                 word = ("call", self.maker_of(kind.key, record), kind.call.form, kind.call.name)
             elif kind.word in MESSAGES:
-                of_kind.append(None)
+                of_kind.append(0)
                 continue
             else:
                 word = (kind.word, kind.relative)
-            of_kind.append(numbers.setdefault(word, len(numbers)))
-        row = [of_kind[code] for code in record.commands.codes]
-        return array("I", [it for it in row if it is not None] if None in of_kind else row)
+            of_kind.append(numbers.setdefault(word, len(numbers) + 1))
+        return array("I", filter(None, map(of_kind.__getitem__, record.commands.codes)))
 
     def maker_of(self, key, record):
         """What stands for a context: where one call has made parts of all ranks, that call."""
