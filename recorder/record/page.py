@@ -191,12 +191,13 @@ def page_of_files(title, timeline=None, tables=None, words=None, explained=None,
     said = read(words) if words else ""
     if said.strip():
         add_said(data, said, status)
+    # The page itself makes bars, arrows and tables of these texts, since colljob writes the same into its pages.
     if explained:
-        add_explained(data, read(explained), explained)
+        data["explained"] = checked_explained(read(explained), explained)
     if timeline:
-        add_events(data, read(timeline), timeline)
+        data["timeline"] = checked_timeline(read(timeline), timeline)
     if tables:
-        data["tables"] += list(tables_of(read(tables)))
+        data["stats"] = read(tables)
     return page(data)
 
 
@@ -229,108 +230,20 @@ def shorter(words):
     return re.sub(r" at (?:\S*/)?([^/\s]+)$", r", \1", words)
 
 
-def objects_of(text, path):
+def checked_explained(text, path):
     try:
-        return [json.loads(line) for line in text.splitlines() if line.strip()]
+        objects = [json.loads(line) for line in text.splitlines() if line.strip()]
     except ValueError as why:
         raise Unreadable(f"{path}: not lines of JSON") from why
-
-
-def add_explained(data, text, path):
-    objects = objects_of(text, path)
-    last = next((it for it in objects if it.get("reason") == "explained"), None)
-    if last is None:
+    if not any(isinstance(it, dict) and it.get("reason") == "explained" for it in objects):
         raise Unreadable(f"{path}: not what `colljob explain --format json` writes")
-    data["verdict"], data["tone"] = last["headline"], "good" if last["status"] == 0 else "bad"
-    stuck = {it["rank"]: it for it in objects if it.get("reason") == "waits"}
-    for rank, it in sorted(stuck.items()):
-        lines = [lack_words(request, lack) for request in it["requests"] for lack in request["lacks"]]
-        words = f"rank {rank} waits in line {it['line']}: {it['command']}"
-        data["findings"].append({"words": words, "lines": lines, "tone": "bad"})
-    shown = last["shortest"] or sorted(stuck)
-    for rank in shown:
-        words = f"line {stuck[rank]['line']}: {stuck[rank]['command']}" if rank in stuck else ""
-        data["waiting"].append({"rank": rank, "words": words, "over": rank not in stuck})
-    waits = {(rank, lack["rank"]) for rank in stuck for request in stuck[rank]["requests"] for lack in request["lacks"]}
-    data["waits"] = sorted(it for it in waits if it[0] in shown and it[1] in shown)
+    return text
 
 
-def lack_words(request, lack):
-    behind = f", whose line {lack['line']} stands behind line {lack['behind']}" if lack.get("behind") else ""
-    return f"  for request {request['req']}, {request['kind']}, line {request['line']}: lacks rank {lack['rank']}{behind}"
-
-
-def add_events(data, text, path):
-    """The bars of trace events: each process a rank, each thread a row of it."""
+def checked_timeline(text, path):
     try:
-        events = json.loads(text)["traceEvents"]
+        if not isinstance(json.loads(text)["traceEvents"], list):
+            raise ValueError
     except (ValueError, KeyError, TypeError) as why:
         raise Unreadable(f"{path}: not a timeline, as --timeline writes it") from why
-    meetings, ranks = collections.defaultdict(list), collections.defaultdict(lambda: [0, 0.0, 0.0, 0.0])
-    bars = [event for event in events if event.get("ph") == "X"]
-    for event in bars:
-        add_event(data, event, meetings, ranks)
-    add_messages(data, [event for event in bars if event.get("cat") == "message"])
-    for members in meetings.values():
-        last = max(members, key=lambda it: it[1])
-        waiting = [(rank, ended) for rank, begun, ended in members if rank != last[0] and last[1] > begun]
-        data["arrows"] += [[last[0], last[1], rank, min(last[1], ended), "meet"] for rank, ended in waiting]
-    rows = [[str(rank), f"{number:,}", numbered(busy), numbered(waits)] for rank, (number, busy, waits, _) in sorted(ranks.items())]
-    add_table(data, "By rank", "Milliseconds.", ["rank", "bars", "under way", "waiting"], rows)
-    data["about"] = f"{len(ranks)} ranks, {len(data['bars']):,} bars"
-
-
-def add_event(data, event, meetings, ranks):
-    said, is_wait = event.get("args", {}), event.get("cat") == "wait"
-    rank, begun, ended = event["pid"], event["ts"], event["ts"] + event["dur"]
-    at = os.path.basename(str(said.get("at", ""))) or (f"line {said['line']}" if said.get("line") else "")
-    words = ", ".join(f"{name} {value}" for name, value in said.items() if name not in ("at", "completed at", "line"))
-    kind, waited = ("call", ended) if is_wait else ("request", begun)
-    data["bars"].append([rank, event.get("tid", 0), begun, ended, kind, event["name"], at, words, waited])
-    row = ranks[rank]
-    row[0] += 1
-    row[1] += 0 if is_wait else event["dur"]
-    row[2] += event["dur"] if is_wait else 0
-    key = said.get("communicator", said.get("comm")), said.get("place"), said.get("start")
-    if not is_wait and said.get("place") is not None and key[0] is not None:
-        meetings[key].append((rank, begun, ended))
-
-
-def add_messages(data, events):
-    """Arrows of messages: of one rank, tag and communicator they are received in their order. A receive for any rank or tag has none."""
-    ends = collections.defaultdict(lambda: ([], []))
-    for event in sorted(events, key=lambda it: it["ts"]):
-        said, rank, is_receive = event["args"], event["pid"], re.search("recv$|recv_init$", event["name"], re.I)
-        if said.get("other", -1) >= 0 and "Sendrecv" not in event["name"]:
-            pair = (said["other"], rank) if is_receive else (rank, said["other"])
-            ends[(said.get("communicator"), *pair, said.get("tag"))][bool(is_receive)].append(event)
-    for (_, sender, receiver, _), (sends, receives) in ends.items():
-        for sent, got in zip(sends, receives):
-            data["arrows"].append([sender, sent["ts"], receiver, max(got["ts"] + got["dur"], sent["ts"]), "message"])
-
-
-def tables_of(text):
-    """The tables of --stats: after a line of words, lines whose numbers stand below the ends of these."""
-    lines, title = [*text.splitlines(), ""], "Statistics"
-    for number, line in enumerate(lines):
-        if line.rstrip().endswith(":"):
-            title = line.strip().rstrip(":").replace("wzrun: ", "").capitalize()
-        elif line.strip() and not is_row(line) and number + 1 < len(lines) and is_row(lines[number + 1]):
-            last = next(it for it in range(number + 1, len(lines)) if not is_row(lines[it]))
-            yield table_of(title, line, lines[number + 1:last])
-
-
-def is_row(line):
-    words = line.split()
-    return len(words) > 2 and re.fullmatch(r"\d+|all", words[0]) is not None and re.fullmatch(r"[\d.]+|-", words[1]) is not None
-
-
-def table_of(title, head, lines):
-    """A table whose head is cut where the first row's numbers end; what stands behind them is a column of words."""
-    numbers = re.match(r"(\s*(all|[\d.]+|-)(?=\s|$))+", lines[0])[0]
-    ends = [it.end() for it in re.finditer(r"\S+", numbers)]
-    rest = head[ends[-1]:].strip() or "collective"
-    has_rest = len(lines[0].rstrip()) > ends[-1]
-    cells = [head[begin:end].strip() for begin, end in zip([0, *ends], ends)]
-    rows = [(line.split(None, len(ends)) + [""])[:len(ends) + has_rest] for line in lines]
-    return {"title": title, "note": "", "head": cells + [rest] * has_rest, "rows": rows}
+    return text
