@@ -294,7 +294,7 @@ bool record_write_text(const char *path) {
     }
     unsigned long long messages = messages_sent();
     if (messages > 0)
-        fprintf(to, "# %llu message%s sent beside these calls, which a text doesn't have: what colljob says is of the collectives alone\n", messages, messages == 1 ? " was" : "s were");
+        fprintf(to, "# by themselves: %llu message%s sent beside these calls, which a text doesn't have: what colljob says is of the collectives alone\n", messages, messages == 1 ? " was" : "s were");
     return fclose(to) == 0;
 }
 
