@@ -9,7 +9,7 @@
 static const char version[] = "wzrun (Worzsunab) 0.1.0, MPI 4.1 with ranks as threads of one process\n";
 static const char help[] =
     "wzrun: runs an MPI program with its ranks as threads of one process, and reports deadlocks, mismatched collectives and wrong calls\n"
-    "  wzrun [-n N] [OPTION ..] PROGRAM [ARGUMENT ..]      PROGRAM was linked by wzcc or wzc++\n"
+    "  wzrun [-n N] [OPTION ..] PROGRAM [ARGUMENT ..]      PROGRAM was linked by wzcc, wzc++ or wzfort\n"
     "Ranks:\n"
     "  -n N, -np N      1 to 64 ranks; else WZ_RANKS says how many, or there is one\n"
     "  -x NAME[=VALUE]  sets a variable of the environment\n"
