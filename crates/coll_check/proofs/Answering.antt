@@ -55,17 +55,20 @@ IsCheckFault-read NoThread start text read means = HasMeaning-read start text re
 IsCheckFault-read Torn start text read means = HasMeaning-read start text read means
 
 -- the report of a fault is what is said of a text that has it
-pub Says-fault : (form : CheckForm) (name text : List ℕ) (status : ℕ) (fault : Fault) (lines : List ℕ) → meaning text ≡ Err fault → ReportsFault form name fault lines
+pub Says-fault : (form : CheckForm) (name text : List ℕ) (status : ℕ) (fault : Fault) (lines : List ℕ) → meaning text ≡ Err fault
+    → ReportsFault form name fault lines
     → Says form name text status lines
 Says-fault form name text status fault lines is reports =
-    subst (λ (m : Result (List ℕ) Fault). MatchResult m (λ outcomes. ReportsNone form name text status lines) (λ fault. ReportsFault form name fault lines)) (sym is) reports
+    subst (λ (m : Result (List ℕ) Fault). MatchResult m (λ outcomes. ReportsNone form name text status lines) (λ fault. ReportsFault form name fault lines))
+    (sym is) reports
 
 -- the report of no fault, of a text that has a meaning
 pub Says-none : (form : CheckForm) (name text : List ℕ) (status : ℕ) (lines : List ℕ) → HasMeaning text → ReportsNone form name text status lines
     → Says form name text status lines
 Says-none form name text status lines means reports = go (meaning text) means
   where
-    go : (m : Result (List ℕ) Fault) → IsOk m → MatchResult m (λ outcomes. ReportsNone form name text status lines) (λ fault. ReportsFault form name fault lines)
+    go : (m : Result (List ℕ) Fault) → IsOk m
+        → MatchResult m (λ outcomes. ReportsNone form name text status lines) (λ fault. ReportsFault form name fault lines)
     go (Ok outcomes) ok = reports
     go (Err fault) ok = absurd (let both : false ≡ true = ok in cc)
 
@@ -84,7 +87,7 @@ Says-read form name (Some input) text status lines read says =
     (go (meaning text) says)
   where
     none : ReportsNone form name text status lines → ReportsNone form name input status lines
-    none reports = (reports.0, reports.1, true-read (Some input) text (explained_as form) status reports.0 read reports.2)
+    none reports = (reports.0, reports.1, reports.2, true-read (Some input) text (explained_as form) status reports.0 read reports.3)
 
     go : (m : Result (List ℕ) Fault) → MatchResult m (λ outcomes. ReportsNone form name text status lines) (λ fault. ReportsFault form name fault lines)
         → MatchResult m (λ outcomes. ReportsNone form name input status lines) (λ fault. ReportsFault form name fault lines)

@@ -23,7 +23,8 @@ reports-more form (first ∷ faults) fault bytes report are is = (
 )
 
 -- the reports of what was found first and of the first of the others, and that of the next
-pub reports-step : {X : Type 0} (form : CheckForm) (fault : X → Fault) (first : Fault) (found : List X) (i : ℕ) (next : X) (bytes report : List ℕ) → i < length found
+pub reports-step : {X : Type 0} (form : CheckForm) (fault : X → Fault) (first : Fault) (found : List X) (i : ℕ) (next : X) (bytes report : List ℕ)
+    → i < length found
     → next ≡ get_or found i next → AreReports form (first ∷ map fault (take i found)) bytes → IsReport form (fault next) report
     → AreReports form (first ∷ map fault (take (i + 1) found)) (bytes ++ report)
 reports-step {X} form fault first found i next bytes report lt there are is =
@@ -36,7 +37,8 @@ reports-step {X} form fault first found i next bytes report lt there are is =
         ∙ ap (λ (x : X). map fault (take i found) ++ fault x ∷ []) (sym there))
 
 -- the reports of all that was found, and how many they are
-pub reports-all : {X : Type 0} (form : CheckForm) (name : List ℕ) (fault : X → Fault) (first : Fault) (found : List X) (count : ℕ) (cut : Bool) (reports end lines : List ℕ)
+pub reports-all : {X : Type 0} (form : CheckForm) (name : List ℕ) (fault : X → Fault) (first : Fault) (found : List X)
+    (count : ℕ) (cut : Bool) (reports end lines : List ℕ)
     → count ≡ length found + 1 → AreReports form (first ∷ map fault found) reports → end ≡ report_end form name count cut → lines ≡ reports ++ end
     → ReportsAll form name (first ∷ map fault found) cut lines
 reports-all {X} form name fault first found count cut reports end lines many are ends is = (

@@ -1,7 +1,9 @@
 -- The words of causes.
 use Rattle.std.specs.Prelude.{ℕ, List, codes}
 use Rattle.coll_parser.specs.declared.cause.Cause.{Cause}
-use Rattle.coll_parser.specs.declared.cause.Cause.TheVariants.{TooLong, MissingRanks, UnknownCommand, OutOfPlace, BadWords, BadNumber, BadRank, BadCommunicator, BadSignature, WrongValueCount, BadValue, UnknownRequest, NamedTwice, NotStartable, TooManyRequests, PlaceMismatch, PlaceMissing, StartMissing}
+use Rattle.coll_parser.specs.declared.cause.Cause.TheVariants.{TooLong, MissingRanks, UnknownCommand, OutOfPlace, BadWords, BadNumber, BadRank}
+use Rattle.coll_parser.specs.declared.cause.Cause.TheVariants.{BadCommunicator, BadSignature, WrongValueCount, BadValue, UnknownRequest, NamedTwice}
+use Rattle.coll_parser.specs.declared.cause.Cause.TheVariants.{NotStartable, TooManyRequests, PlaceMismatch, PlaceMissing, StartMissing}
 
 -- the words by which a user knows the rule that a text breaks
 abbrev pub words_of : Cause → List ℕ

@@ -129,7 +129,8 @@ another_member : (starts : Starts) (kind : Bor (List ℕ)) (lacks : Vec Lack Glo
 another_member starts kind lacks = refl
 
 -- a member of a barrier on which nothing is said to rest
-nothing_rests : (starts : Starts) → need_holds (record { line = 4; comm = 0; place = 0; member = 0; sig = barrier; starts = starts }) 2 (lacking 1 10 9 false) ≡ false
+nothing_rests : (starts : Starts)
+    → need_holds (record { line = 4; comm = 0; place = 0; member = 0; sig = barrier; starts = starts }) 2 (lacking 1 10 9 false) ≡ false
 nothing_rests starts = refl
 
 -- a line of the lacking rank before that in which it waits

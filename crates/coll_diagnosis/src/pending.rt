@@ -29,7 +29,8 @@ pub struct Pending {
 impl Pending {
     ghost use Rattle.std.specs.Prelude.{◌≡◌, slice_get};
     ghost use Rattle.std.specs.List.{list_any, list_all};
-    ghost use Rattle.coll_diagnosis.specs.Standing.{awaits_in, call_awaits, ends_after, fits, lack_holds, lacks_hold, lacks_one, mode_holds, pending_holds, request_holds, size_of};
+    ghost use Rattle.coll_diagnosis.specs.Standing.{awaits_in, call_awaits, ends_after, fits, lack_holds, lacks_hold, lacks_one, mode_holds};
+    ghost use Rattle.coll_diagnosis.specs.Standing.{pending_holds, request_holds, size_of};
 
     pub(crate) fn holds(&self, facts: &Facts<'_>, stuck: &Stuck, own: &[Request<'_>]) -> bool
         ensures { result ≡ pending_holds facts.now.issued.now facts.now.ranks.now facts.now.groups.now stuck.now own.now self.now }

@@ -1,2 +1,4 @@
 -- texts whose lines have no fault
 pub mod Accepting
+-- the text of a draft
+pub mod Drafts

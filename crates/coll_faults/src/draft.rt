@@ -1,3 +1,7 @@
+ghost use Rattle.std.specs.Prelude.{◌≡◌, IfOk, flat_map, take};
+ghost use Rattle.coll_parser.specs.Code.{texts};
+ghost use Rattle.coll_faults.specs.Drafts.{ended_line, front_of, line_bytes, lines_in, put, put_all};
+
 use crate::patch::{Patch, copied};
 use std::alloc::{AllocError, Global};
 
@@ -59,18 +63,24 @@ impl<'t> MendedText<'t> {
         alloc: Global,
         last: u32,
         patches: &[Patch],
-    ) -> Result<Vec<u8>, AllocError> {
+    ) -> Result<Vec<u8>, AllocError>
+        ensures { IfOk result (λ text. text.items ≡ front_of self.now last patches.now) }
+    {
+        let mut lines = self.first_lines(alloc, last)?;
+        put_all(&mut lines, patches);
+        joined(alloc, &lines)
+    }
+
+    /// The bytes of the lines up to that number.
+    fn first_lines(&self, alloc: Global, last: u32) -> Result<Vec<&[u8]>, AllocError>
+        ensures { IfOk result (λ lines. texts lines.items ≡ take last (lines_in self.now)) }
+    {
+        let first = first_of(&self.lines, last as usize);
         let mut lines = Vec::new(alloc);
-        for line in self.lines.iter().take(last as usize) {
+        for line in first {
             lines.push(line.bytes())?;
         }
-        for patch in patches {
-            let index = (patch.line as usize).saturating_sub(1);
-            if let Some(line) = lines.get_mut(index) {
-                *line = patch.block.as_slice();
-            }
-        }
-        joined(alloc, &lines)
+        Ok(lines)
     }
 
     /// Puts the patches in place of their lines.
@@ -130,7 +140,9 @@ impl Written {
 }
 
 impl<'t> Line<'t> {
-    fn bytes(&self) -> &[u8] {
+    fn bytes(&self) -> &[u8]
+        ensures { result.now ≡ line_bytes self.now }
+    {
         match self {
             Line::Written(bytes) => bytes,
             Line::Mended(bytes) => bytes,
@@ -138,8 +150,40 @@ impl<'t> Line<'t> {
     }
 }
 
+/// The first of some lines.
+fn first_of<'l, 't>(lines: &'l [Line<'t>], count: usize) -> &'l [Line<'t>]
+    ensures { result.now ≡ take count lines.now }
+{
+    if count < lines.len() {
+        &lines[..count]
+    } else {
+        lines
+    }
+}
+
+/// Puts the block of each patch in place of its line, if there is such a line.
+fn put_all<'p>(lines: &mut Vec<&'p [u8]>, patches: &'p [Patch])
+    ensures { texts lines.new.items ≡ put_all (texts lines.old.items) patches.now }
+{
+    for patch in patches {
+        put(lines, patch);
+    }
+}
+
+fn put<'p>(lines: &mut Vec<&'p [u8]>, patch: &'p Patch)
+    ensures { texts lines.new.items ≡ put (texts lines.old.items) patch.now }
+{
+    let index = (patch.line as usize).saturating_sub(1);
+    if index >= lines.len() {
+        return;
+    }
+    lines[index] = patch.block.as_slice();
+}
+
 /// Lines as one text, with a line feed after each.
-fn joined(alloc: Global, lines: &[&[u8]]) -> Result<Vec<u8>, AllocError> {
+fn joined(alloc: Global, lines: &[&[u8]]) -> Result<Vec<u8>, AllocError>
+    ensures { IfOk result (λ text. text.items ≡ flat_map ended_line (texts lines.now)) }
+{
     let mut text = Vec::new(alloc);
     for line in lines {
         text.extend_from_slice(line)?;

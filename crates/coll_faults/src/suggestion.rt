@@ -1,5 +1,7 @@
-ghost use Rattle.std.specs.Prelude.{◌≡◌, true};
+ghost use Rattle.std.specs.Prelude.{◌≡◌, true, IfOk, IfSome};
+ghost use Rattle.std.specs.String.{string_bytes};
 ghost use Rattle.coll_faults.specs.Accepting.{is_accepted};
+ghost use Rattle.coll_faults.specs.Drafts.{front_of};
 
 use crate::accepting::accepted;
 use crate::draft::MendedText;
@@ -23,7 +25,12 @@ impl Suggestion {
         line: u32,
         help: String,
         patches: Vec<Patch>,
-    ) -> Result<Option<Suggestion>, AllocError> {
+    ) -> Result<Option<Suggestion>, AllocError>
+        // What was accepted is the draft's first lines, with these patches.
+        ensures front { IfOk result (λ tried. IfSome tried (λ suggestion. suggestion.front.items ≡ front_of draft.now line patches.items)) }
+        ensures patches { IfOk result (λ tried. IfSome tried (λ suggestion. suggestion.patches.items ≡ patches.items)) }
+        ensures help { IfOk result (λ tried. IfSome tried (λ suggestion. string_bytes suggestion.help ≡ string_bytes help)) }
+    {
         let front = draft.front(alloc, line, &patches)?;
         if accepted(alloc, &front)?.is_none() {
             return Ok(None);
@@ -36,18 +43,23 @@ impl Suggestion {
     }
 
     /// The words that describe the change to a user.
-    pub fn help(&self) -> &str {
+    pub fn help(&self) -> &str
+        ensures { result.now ≡ string_bytes self.now.help }
+    {
         self.help.as_str()
     }
 
     /// The lines that are replaced, with those in their place.
-    pub fn patches(&self) -> &[Patch] {
+    pub fn patches(&self) -> &[Patch]
+        ensures { result.now ≡ self.now.patches.items }
+    {
         &self.patches
     }
 
     /// The changed text up to the line for which the change is made. Faulty lines before it are mended in it.
     pub fn front(&self) -> &[u8]
         ensures tried { is_accepted result.now ≡ true }
+        ensures front { result.now ≡ self.now.front.items }
     {
         &self.front
     }

@@ -1,7 +1,8 @@
 //! Answers a text: what a task asks for of a text is written.
 
-ghost use Rattle.std.specs.Prelude.{◌≡◌, ◌≤◌, ◌||◌, Some, false, true, IfOk, IfErr};
+ghost use Rattle.std.specs.Prelude.{◌≡◌, ◌≤◌, ◌+◌, ◌||◌, Some, false, true, IfOk, IfErr, IfSome, take};
 ghost use Rattle.std.specs.Io.KnownBytes.{Keeps};
+ghost use Rattle.coll_kinds.specs.Limits.{max_text};
 ghost use Rattle.coll_script.specs.Faults.{status_of};
 ghost use Rattle.coll_script.specs.Plain.{HasCause, IsReadFault};
 ghost use Rattle.coll_job.specs.Tasks.{workers_of, may_write, is_answer, name_of, AnswersText, IsAnswer, IsJudged, IsStatusOf};
@@ -9,10 +10,10 @@ ghost use Rattle.coll_job.specs.Tasks.{workers_of, may_write, is_answer, name_of
 use crate::carrying_out::{draw_run, run_text};
 use crate::drawing::draw;
 use crate::host::Host;
+use crate::pages::explain;
 use crate::screen::Screen;
 use crate::task::{Task, Way};
 use coll_check::check_job;
-use coll_diagnosis::explain_job;
 use coll_script::{CountedReader, JobFault, Witnessed, plain_job, read_text};
 use std::alloc::Global;
 use std::fs::Files;
@@ -49,8 +50,10 @@ pub(crate) fn answer_file<
     ensures cause { IfOk result (λ status. status ≡ 1 → host.new.failed ≡ true) }
     ensures cause_fault { IfErr result (λ fault. HasCause fault host.new.failed (output.new.failed || errors.new.failed)) }
     ensures same_output { output.new.stream.ghost_name ≡ output.old.stream.ghost_name }
-    ensures unwritten { IfOk result (λ status. may_write task.entry.way status ≡ false → Keeps (W.contents output.old.stream.now) (W.contents output.new.stream.now)) }
-    ensures unwritten_fault { IfErr result (λ fault. may_write task.entry.way (status_of fault) ≡ false → Keeps (W.contents output.old.stream.now) (W.contents output.new.stream.now)) }
+    ensures unwritten { IfOk result
+        (λ status. may_write task.entry.way status ≡ false → Keeps (W.contents output.old.stream.now) (W.contents output.new.stream.now)) }
+    ensures unwritten_fault { IfErr result
+        (λ fault. may_write task.entry.way (status_of fault) ≡ false → Keeps (W.contents output.old.stream.now) (W.contents output.new.stream.now)) }
 {
     match host.open(name) {
         Ok(file) => match read_file(host, alloc, file) {
@@ -74,7 +77,20 @@ fn read_file<M: Files>(
     ensures cause { IfErr result (λ fault. HasCause fault host.new.failed false) }
 {
     let mut file = file;
-    let mut reader = CountedReader::new(&mut file);
+    read_all(host, alloc, &mut file)
+}
+
+/// Reads a text from an opened file, up to one byte more than a text may have, and notes whether the file failed.
+fn read_all<M: Files, R: Read>(
+    host: &mut Host<'_, M>,
+    alloc: Global,
+    file: &mut R,
+) -> Result<Vec<u8>, JobFault>
+    ensures text { IfOk result (λ text. IfSome (R.remaining file.old) (λ input. text.items ≡ take (max_text + 1) input)) }
+    ensures fault { IfErr result IsReadFault }
+    ensures cause { IfErr result (λ fault. HasCause fault host.new.failed false) }
+{
+    let mut reader = CountedReader::new(file);
     let text = read_text(alloc, &mut reader);
     host.heed(&reader);
     text
@@ -99,8 +115,10 @@ fn answer_text<M: Threads + Wait + Sync + Files + Clock, S: Screen + Sync, W: Wr
     ensures cause { IfOk result (λ status. status ≡ 1 → host.new.failed ≡ true) }
     ensures cause_fault { IfErr result (λ fault. HasCause fault host.new.failed (output.new.failed || errors.new.failed)) }
     ensures same_output { output.new.stream.ghost_name ≡ output.old.stream.ghost_name }
-    ensures unwritten { IfOk result (λ status. may_write task.entry.way status ≡ false → Keeps (W.contents output.old.stream.now) (W.contents output.new.stream.now)) }
-    ensures unwritten_fault { IfErr result (λ fault. may_write task.entry.way (status_of fault) ≡ false → Keeps (W.contents output.old.stream.now) (W.contents output.new.stream.now)) }
+    ensures unwritten { IfOk result
+        (λ status. may_write task.entry.way status ≡ false → Keeps (W.contents output.old.stream.now) (W.contents output.new.stream.now)) }
+    ensures unwritten_fault { IfErr result
+        (λ fault. may_write task.entry.way (status_of fault) ≡ false → Keeps (W.contents output.old.stream.now) (W.contents output.new.stream.now)) }
 {
     let mut bytes = text;
     let mut reader = CountedReader::new(&mut bytes);
@@ -133,14 +151,17 @@ pub(crate) fn write_answer<
     ensures judged_fault { IfErr result (λ fault. IsJudged task.entry.way (R.remaining reader.old.reader.now) (status_of fault)) }
     // The answer was written, and no fault has the status of an answer.
     ensures answered { IfOk result (λ status.
-        IsAnswer task.entry.way (name_of task.entry.file) status (R.remaining reader.old.reader.now) (W.contents output.old.stream.now) (W.contents output.new.stream.now)
+        IsAnswer task.entry.way (name_of task.entry.file) status (R.remaining reader.old.reader.now)
+        (W.contents output.old.stream.now) (W.contents output.new.stream.now)
         (E.contents errors.old.stream.now) (E.contents errors.new.stream.now)) }
     ensures unanswered { IfErr result (λ fault. is_answer task.entry.way (status_of fault) ≡ false) }
     ensures cause { IfOk result (λ status. status ≡ 1 → host.new.failed ≡ true) }
     ensures cause_fault { IfErr result (λ fault. HasCause fault reader.new.failed (output.new.failed || errors.new.failed)) }
     ensures same_output { output.new.stream.ghost_name ≡ output.old.stream.ghost_name }
-    ensures unwritten { IfOk result (λ status. may_write task.entry.way status ≡ false → Keeps (W.contents output.old.stream.now) (W.contents output.new.stream.now)) }
-    ensures unwritten_fault { IfErr result (λ fault. may_write task.entry.way (status_of fault) ≡ false → Keeps (W.contents output.old.stream.now) (W.contents output.new.stream.now)) }
+    ensures unwritten { IfOk result
+        (λ status. may_write task.entry.way status ≡ false → Keeps (W.contents output.old.stream.now) (W.contents output.new.stream.now)) }
+    ensures unwritten_fault { IfErr result
+        (λ fault. may_write task.entry.way (status_of fault) ≡ false → Keeps (W.contents output.old.stream.now) (W.contents output.new.stream.now)) }
 {
     let name = name_of(task.file);
     match task.way {
@@ -158,7 +179,15 @@ pub(crate) fn write_answer<
             output,
             errors.stream,
         ),
-        Way::Explain(options) => explain_job(alloc, name, options, reader, output),
+        Way::Explain(explaining) => explain(
+            host,
+            alloc,
+            name,
+            explaining,
+            reader,
+            output,
+            errors.stream,
+        ),
         Way::Check(form) => check_job(alloc, name, form, reader, output, errors),
         Way::Draw(draft) => draw(host, alloc, draft, output, errors.stream),
         Way::DrawRun { workers, file } => {

@@ -112,7 +112,8 @@ pub fn do_parsed<
     ensures same_output { output.new.stream.ghost_name ≡ output.old.stream.ghost_name }
     ensures unwritten { 3 < result → result ≢ 6 → Keeps (W.contents output.old.stream.now) (W.contents output.new.stream.now) }
     // `may_write` says for which tasks and statuses standard output may change; if the parser makes no task, only help is written there.
-    ensures unwritten_task { IfOk parsed.entry (λ task. may_write task.way result ≡ false → Keeps (W.contents output.old.stream.now) (W.contents output.new.stream.now)) }
+    ensures unwritten_task { IfOk parsed.entry
+        (λ task. may_write task.way result ≡ false → Keeps (W.contents output.old.stream.now) (W.contents output.new.stream.now)) }
     ensures unwritten_words { IfErr parsed.entry (λ error. 1 < result → Keeps (W.contents output.old.stream.now) (W.contents output.new.stream.now)) }
 {
     match parsed {
@@ -145,7 +146,8 @@ pub fn do_task<
     // If it is answered, the answer was written: under `plain` and `run` the meaning of the text, under `explain` and `check` what they
     // say with that status. If a file is named, it is the answer to the text that was read.
     ensures answered { IfNone task.entry.file
-        (IsAnswered task.entry.way (name_of task.entry.file) result (R.remaining input.old.reader.now) (W.contents output.old.stream.now) (W.contents output.new.stream.now)
+        (IsAnswered task.entry.way (name_of task.entry.file) result (R.remaining input.old.reader.now)
+        (W.contents output.old.stream.now) (W.contents output.new.stream.now)
         (E.contents errors.old.stream.now) (E.contents errors.new.stream.now)) }
     ensures answered_file { IfSome task.entry.file (λ name.
         AnswersText task.entry.way (name_of task.entry.file) result (W.contents output.old.stream.now) (W.contents output.new.stream.now)

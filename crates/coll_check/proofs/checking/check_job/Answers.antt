@@ -27,7 +27,8 @@ returns-clause-said g c =
     let errors = g.E.Write.contents c.args.errors.now.stream.now in
     let writes =
     subst
-    (λ (bytes : List ℕ). WritesLines c.args.form output (g.W.Write.contents c.write_report.new.output.stream.now) errors (g.E.Write.contents c.write_report.new.errors.stream.now) bytes)
+    (λ (bytes : List ℕ). WritesLines c.args.form output (g.W.Write.contents c.write_report.new.output.stream.now) errors
+    (g.E.Write.contents c.write_report.new.errors.stream.now) bytes)
     (c.as_bytes.ensures.value ∙ c.as_str.ensures.value)
     c.in_ok-write_report.ensures.ok in
     (_, says, writes)

@@ -23,5 +23,9 @@ pub returns-clause-verdict : goal.returns-clause-verdict
 returns-clause-verdict g c =
     let start = g.R.Read.remaining c.args.reader.now.reader.now in
     let read = subst (λ (text : List ℕ). IfSome start (λ input. text ≡ take 1048577 input)) (sym c.deref.ensures.value) c.in_ok-text.ensures.text in
-    let is = subst (λ (lines : List ℕ). IsTrueOf c.deref.result.now c.args.options c.in_ok-explained.explained.status lines) (sym (c.as_bytes.ensures.value ∙ c.as_str.ensures.value)) c.in_ok-explained.ensures.verdict in
-    (c.as_bytes.result.now, true-read start c.deref.result.now c.args.options c.in_ok-explained.explained.status c.as_bytes.result.now read is, c.in_ok-write_lines.ensures.ok)
+    let is = subst (λ (lines : List ℕ). IsTrueOf c.deref.result.now c.args.options c.in_ok-explained.explained.status lines)
+    (sym (c.as_bytes.ensures.value ∙ c.as_str.ensures.value)) c.in_ok-explained.ensures.verdict in (
+      c.as_bytes.result.now,
+      true-read start c.deref.result.now c.args.options c.in_ok-explained.explained.status c.as_bytes.result.now read is,
+      c.in_ok-write_lines.ensures.ok,
+    )

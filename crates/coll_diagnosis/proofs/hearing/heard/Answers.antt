@@ -14,10 +14,12 @@ loop-round-preserved c =
     let rows = c.in_ok-rows-2.rows.items in
     let after : AreRowsAfter c.in_ok-plans.plans.items j c.loop-round.rows.items rows =
     subst (λ (plans : List Planned). AreRowsAfter plans j c.loop-round.rows.items rows) c.deref-in-loop-round.ensures.value
-    (subst (λ (before : List (Vec Bool Global)). AreRowsAfter c.deref-in-loop-round.result.now j before rows) c.deref-in-loop-round-2.ensures.value c.in_ok-rows-2.ensures) in
+    (subst (λ (before : List (Vec Bool Global)). AreRowsAfter c.deref-in-loop-round.result.now j before rows)
+    c.deref-in-loop-round-2.ensures.value c.in_ok-rows-2.ensures) in
     record {
       plans = c.loop-round.invariant.plans;
-      rows = rw add-one (after_is c.args.sig c.args.n c.in_ok-plans.plans.items c.loop-round.invariant.plans j c.loop-round.rows.items rows c.loop-round.invariant.rows after);
+      rows = rw add-one (after_is c.args.sig c.args.n c.in_ok-plans.plans.items c.loop-round.invariant.plans j
+          c.loop-round.rows.items rows c.loop-round.invariant.rows after);
     }
 
 pub returns : goal.returns

@@ -1,0 +1,2 @@
+-- how patches are put into the lines of a draft
+mod Drafting
