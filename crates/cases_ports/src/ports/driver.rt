@@ -369,7 +369,7 @@ impl<L: Entries> PortDriver<L> {
         Ok(PortAnswer::Worked(self.engine.work(rt, &NoGate)?))
     }
 
-    /// Ends all ports that haven't ended, except one that was put aside, and closes the engine.
+    /// Ends all ports that haven't ended, except one that was put aside, and closes the engine with their ends, that of the highest rank first.
     pub fn close<R: Wait>(self, rt: &R) -> Result<Closed, Refusal>
         requires { L.parts ≡ L.setting.ranks }
     {
@@ -384,11 +384,9 @@ impl<L: Entries> PortDriver<L> {
             outcomes,
             ..
         } = driver;
-        let mut spents = ended;
-        spents.reverse();
         Ok(Closed {
             outcomes,
-            report: report_of(rt, engine, spents),
+            report: report_of(rt, engine, ended),
         })
     }
 }
