@@ -38,6 +38,8 @@ mod viewing;
 mod views;
 mod words;
 
+pub use coll_run::run_job;
+pub use coll_script::{JobFault, plain_job, read_text};
 pub use drawing::{DrawForm, DrawingTask};
 pub use host::Host;
 pub use machine::main_of;
