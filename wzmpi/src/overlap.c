@@ -107,8 +107,8 @@ int judge_pending(const struct request *request, const char *call) {
 }
 
 int judge_received(const struct request *request, const char *call) {
-    int many = pieces_received(request);
     if (!the_run.strict) return MPI_SUCCESS;
+    int many = pieces_received(request);
     for (int i = 0; i < many; i++) {
         struct piece piece = received_piece(request, i);
         if (!is_empty(piece) && type_overlaps(piece.type, piece.many)) return refuse(request->comm, MPI_ERR_TYPE, call, "the type that it receives overlaps itself, so a place would be written to twice");

@@ -13,21 +13,25 @@ struct threads {
 };
 static struct threads threads[MOST_RANKS] = { [0 ... MOST_RANKS - 1] = { .one = PTHREAD_MUTEX_INITIALIZER } };
 
-static __thread const char *line; /* of this thread's last call that has noted one */
-static __thread bool main_thread;
-static __thread int depth; /* calls in calls, as an operation of the program may make */
+/* Of this thread. All calls read it, so it lies at a fixed distance from the thread's pointer: a general-dynamic variable would cost each of them a call. */
+static __thread struct {
+    const char *line; /* of its last call that has noted one */
+    int depth;        /* calls in calls, as an operation of the program may make */
+    int level;        /* of the call that it is in: MPI_Init_thread changes it */
+    bool is_main;
+} own_thread __attribute__((tls_model("initial-exec")));
 
-void wz_note_line_(const char *at) { line = at; }
+void wz_note_line_(const char *at) { own_thread.line = at; }
 
-void be_main(void) { main_thread = true; }
+void be_main(void) { own_thread.is_main = true; }
 
-bool is_main(void) { return main_thread; }
+bool is_main(void) { return own_thread.is_main; }
 
-bool is_inside_call(void) { return depth > 0; }
+bool is_inside_call(void) { return own_thread.depth > 0; }
 
 bool has_threads(const struct rank *rank) { return atomic_load(&threads[rank->number].several); }
 
-static const char *line_text(void) { return line != NULL ? line : "a line that isn't known"; }
+static const char *line_text(void) { return own_thread.line != NULL ? own_thread.line : "a line that isn't known"; }
 
 /* ---- what isn't allowed */
 
@@ -67,49 +71,52 @@ static void note_thread(struct threads *own) {
 /* Threads may ask for the level, and whether they are the main one, at any time. */
 static bool is_asking(const char *call) { return strcmp(call, "MPI_Query_thread") == 0 || strcmp(call, "MPI_Is_thread_main") == 0; }
 
-static void judge_thread(struct rank *rank, const char *call) {
+/* Most programs have one thread a rank, whose calls never come here. */
+static __attribute__((noinline, cold)) void judge_thread(struct rank *rank, const char *call) {
     struct threads *own = &threads[rank->number];
-    if (rank->level == MPI_THREAD_MULTIPLE) {
+    if (own_thread.level == MPI_THREAD_MULTIPLE) {
         pthread_mutex_lock(&own->one);
         note_thread(own);
-    } else if (rank->level == MPI_THREAD_SERIALIZED) {
+    } else if (own_thread.level == MPI_THREAD_SERIALIZED) {
         const char *other = is_asking(call) ? NULL : atomic_exchange(&own->inside, call);
         if (other != NULL) tell_two(rank, call, other);
-        atomic_store_explicit(&own->inside_at, line, memory_order_relaxed);
-    } else if (!main_thread && !is_asking(call)) tell_wrong_thread(rank, call);
+        atomic_store_explicit(&own->inside_at, own_thread.line, memory_order_relaxed);
+    } else if (!own_thread.is_main && !is_asking(call)) tell_wrong_thread(rank, call);
 }
 
-static __thread int entered_level; /* that of the call that this thread is in: MPI_Init_thread changes it */
+/* Of a thread that the program has made, in its first call. */
+static __attribute__((noinline, cold)) struct rank *find_rank(const void *from) {
+    struct rank *rank = own_thread.line != NULL ? rank_of_code(own_thread.line) : NULL;
+    return rank != NULL ? rank : rank_of_code(from);
+}
 
 void enter_call(const char *call, const void *from) {
-    struct rank *rank = current_rank;
-    if (rank == NULL && line != NULL) rank = rank_of_code(line);
-    if (rank == NULL) rank = rank_of_code(from);
+    struct rank *rank = current_rank != NULL ? current_rank : find_rank(from);
     if (rank == NULL) return; /* the call itself tells that its thread is no rank's */
-    if (depth++ == 0) {
-        entered_level = rank->begun ? rank->level : MPI_THREAD_SINGLE;
-        if (rank->begun) judge_thread(rank, call);
+    if (own_thread.depth++ == 0) {
+        own_thread.level = rank->begun ? rank->level : MPI_THREAD_SINGLE;
+        if (rank->begun && (own_thread.level > MPI_THREAD_FUNNELED || !own_thread.is_main)) judge_thread(rank, call);
     }
-    if (line != NULL) atomic_store_explicit(&rank->site, line, memory_order_relaxed);
+    if (own_thread.line != NULL) atomic_store_explicit(&rank->site, own_thread.line, memory_order_relaxed);
     atomic_store_explicit(&rank->call, call, memory_order_relaxed);
     atomic_store_explicit(&rank->lines, atomic_load_explicit(&rank->lines, memory_order_relaxed) + 1, memory_order_relaxed);
 }
 
 void leave_call(void) {
-    if (current_rank == NULL || --depth > 0) return;
+    if (current_rank == NULL || --own_thread.depth > 0 || own_thread.level <= MPI_THREAD_FUNNELED) return;
     struct threads *own = &threads[current_rank->number];
-    if (entered_level == MPI_THREAD_MULTIPLE) pthread_mutex_unlock(&own->one);
-    else if (entered_level == MPI_THREAD_SERIALIZED) atomic_store(&own->inside, NULL);
+    if (own_thread.level == MPI_THREAD_MULTIPLE) pthread_mutex_unlock(&own->one);
+    else atomic_store(&own->inside, NULL);
 }
 
 /* ---- waits */
 
 void let_others_in(void) {
-    if (entered_level == MPI_THREAD_MULTIPLE) pthread_mutex_unlock(&threads[current_rank->number].one);
+    if (own_thread.level == MPI_THREAD_MULTIPLE) pthread_mutex_unlock(&threads[current_rank->number].one);
 }
 
 void come_back(void) {
-    if (entered_level != MPI_THREAD_MULTIPLE) return;
+    if (own_thread.level != MPI_THREAD_MULTIPLE) return;
     pthread_mutex_lock(&threads[current_rank->number].one);
-    if (line != NULL) atomic_store_explicit(&current_rank->site, line, memory_order_relaxed);
+    if (own_thread.line != NULL) atomic_store_explicit(&current_rank->site, own_thread.line, memory_order_relaxed);
 }

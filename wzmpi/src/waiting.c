@@ -21,7 +21,7 @@ static pthread_mutex_t looking = PTHREAD_MUTEX_INITIALIZER;
 static atomic_bool looked_at;
 
 /* Of a rank's threads one at a time is looked at (MPI_THREAD_MULTIPLE). */
-static __thread bool is_looked_at;
+static __thread bool is_looked_at __attribute__((tls_model("initial-exec")));
 
 static void begin_wait(struct wait wait) {
     struct rank *me = current_rank;
@@ -61,7 +61,11 @@ void hold_watch(bool begin) {
     pthread_mutex_unlock(&looking);
 }
 
-void note_progress(void) { atomic_fetch_add_explicit(&current_rank->progress, 1, memory_order_relaxed); }
+/* A rank's threads have it one at a time, so the store loses nothing, and no bus is locked. */
+void note_progress(void) {
+    _Atomic uint64_t *progress = &current_rank->progress;
+    atomic_store_explicit(progress, atomic_load_explicit(progress, memory_order_relaxed) + 1, memory_order_relaxed);
+}
 
 /* ---- how far a request is */
 
