@@ -9,7 +9,7 @@
 static const char version[] = "wzrun (Worzsunab) 0.1.0, MPI 4.1 with ranks as threads of one process\n";
 static const char help[] =
     "wzrun: runs an MPI program with its ranks as threads of one process, and reports deadlocks, mismatched collectives and wrong calls\n"
-    "  wzrun [-n N] [OPTION ..] PROGRAM [ARGUMENT ..]      PROGRAM was linked by wzcc, wzc++ or wzfort\n"
+    "  wzrun [-n N] [OPTION ..] PROGRAM [ARGUMENT ..]      PROGRAM was linked by wzcc, wzc++ or wzfort (C, C++, Fortran)\n"
     "Ranks:\n"
     "  -n N, -np N      1 to 64 ranks; else WZ_RANKS says how many, or there is one\n"
     "  -x NAME[=VALUE]  sets a variable of the environment\n"
@@ -29,6 +29,7 @@ static const char help[] =
     "  --stats          says what ranks and collectives gave, got and waited, how many collectives the engine carried out as they are, and how many it carried\n"
     "Else:\n"
     "  --status-of-faults N  the status where wzrun reports a fault, 1 to 255, so that it can't be the program's\n"
+    "  --large-pages    glibc's allocator takes large pages, for programs with long rows; not where GLIBC_TUNABLES is set, or ranks are more than processors\n"
     "  --color WHEN     auto, always or never; auto where standard error is a terminal and NO_COLOR isn't set\n"
     "  -q, --quiet      without notes about what ranks share, as processes wouldn't\n"
     "  --oversubscribe, --allow-run-as-root  are taken, as mpirun's, and mean nothing\n"
@@ -95,11 +96,12 @@ static void set_variable(const char *text) {
 static bool is_word(const char *word, const char *text) { return strcmp(word, text) == 0; }
 
 /* A word without a value. Whether it is one. */
-static bool read_flag(const char *word) {
+static bool read_flag(const char *word, struct options *options) {
     if (is_word(word, "--strict")) the_run.strict = true;
     else if (is_word(word, "--check")) the_run.checks = true;
     else if (is_word(word, "--explain")) the_run.explains = true;
     else if (is_word(word, "--stats")) the_run.statistics = true;
+    else if (is_word(word, "--large-pages")) options->large_pages = true;
     else if (is_word(word, "--quiet") || is_word(word, "-q")) the_run.quiet = true;
     else return is_word(word, "--oversubscribe") || is_word(word, "--allow-run-as-root");
     return true;
@@ -138,6 +140,7 @@ static void read_variables(struct options *options) {
     the_run.explains = is_set("WZ_EXPLAIN");
     the_run.statistics = is_set("WZ_STATS");
     the_run.quiet = is_set("WZ_QUIET");
+    options->large_pages = is_set("WZ_LARGE_PAGES");
     if (variable("WZ_STATUS_OF_FAULTS") != NULL) the_run.status_of_faults = status_of("WZ_STATUS_OF_FAULTS", variable("WZ_STATUS_OF_FAULTS"));
     if (variable("WZ_TIMEOUT") != NULL) the_run.timeout = seconds_of("WZ_TIMEOUT", variable("WZ_TIMEOUT"));
     if (variable("WZ_SEED") != NULL) the_run.seed = number("WZ_SEED", variable("WZ_SEED"), NULL);
@@ -157,7 +160,7 @@ static int read_option(char **words, int many, struct options *options) {
     char *equals = strchr(words[0], '=');
     if (is_word(words[0], "--help") || is_word(words[0], "-h")) tell_and_end(help);
     if (is_word(words[0], "--version") || is_word(words[0], "-V")) tell_and_end(version);
-    if (read_flag(words[0])) return 1;
+    if (read_flag(words[0], options)) return 1;
     size_t letters = strspn(words[0], "-np");
     if (strncmp(words[0], "-n", 2) == 0 && words[0][letters] >= '0' && words[0][letters] <= '9' && read_value("-n", words[0] + letters, options)) return 1;
     if (strncmp(words[0], "--", 2) == 0 && equals != NULL) {

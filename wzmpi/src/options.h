@@ -9,6 +9,7 @@ struct options {
     uint64_t first_seed, last_seed; /* of --seeds; 0: none */
     int program;                    /* where in argv the program stands */
     const char *page;               /* of --html; NULL: none */
+    bool large_pages;
 };
 
 /* Reads them into *options and the_run. Ends with status 1, or 0 after --help. */
@@ -16,5 +17,8 @@ void read_options(int argc, char **argv, struct options *options);
 
 /* Runs the program once for each seed, as a process of its own, until one ends badly. The status of that, or 0. */
 int run_seeds(int argc, char **argv, const struct options *options);
+
+/* Under --large-pages: executes wzrun anew with the settings of glibc's allocator that take them, where the user has set none and each rank has a processor. */
+void take_large_pages(char **argv, const struct options *options);
 
 #endif

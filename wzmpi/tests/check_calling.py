@@ -50,6 +50,30 @@ target_link_libraries(average MPI::MPI_C)
 """
 
 
+# A program that says whether its environment has settings of the allocator, and whether the process began with all four of --large-pages.
+ALLOCATOR = r"""#include <mpi.h>
+#include <stdbool.h>
+#include <stdio.h>
+#include <stdlib.h>
+#include <string.h>
+int main(int argc, char **argv) {
+    static char began[1 << 20];
+    int rank;
+    FILE *from = fopen("/proc/self/environ", "r");
+    size_t many = fread(began, 1, sizeof began - 1, from);
+    for (size_t i = 0; i < many; i++)
+        if (began[i] == '\0') began[i] = '\n'; /* glibc ends each setting so, too */
+    fclose(from);
+    MPI_Init(&argc, &argv);
+    MPI_Comm_rank(MPI_COMM_WORLD, &rank);
+    bool all = strstr(began, "GLIBC_TUNABLES=") && strstr(began, "mmap_threshold=") && strstr(began, "trim_threshold=") && strstr(began, "top_pad=") && strstr(began, "hugetlb=1");
+    if (rank == 0) printf("%s, %s\n", all ? "large pages" : "as it is", getenv("GLIBC_TUNABLES") != NULL ? getenv("GLIBC_TUNABLES") : "none");
+    MPI_Finalize();
+    return 0;
+}
+"""
+
+
 def written(path, text):
     path.write_text(text)
     return path
@@ -80,6 +104,26 @@ def check_words(binaries, program):
     return failed
 
 
+def check_large_pages(binaries, folder):
+    """Who has the settings: the process alone, and only where the user has none and each rank has a processor."""
+    program = str(compiled(binaries, written(folder / "allocator.c", ALLOCATOR), folder / "allocator"))
+    note, own = "wzrun: note: --large-pages: the allocator stays as it is, because ", "glibc.malloc.top_pad=65536"
+    wanted = [
+        (["-n", "1"], {}, "as it is, none\n"), (["-n", "1", "--large-pages"], {}, "large pages, none\n"), (["-n", "1"], {"WZ_LARGE_PAGES": "1"}, "large pages, none\n"),
+        (["-n", "1"], {"WZ_LARGE_PAGES": "0"}, "as it is, none\n"), (["-n", "1", "--large-pages"], {"GLIBC_TUNABLES": own}, f"{note}GLIBC_TUNABLES is set\nas it is, {own}\n"),
+        (["-n", "1", "-q", "--large-pages"], {"GLIBC_TUNABLES": own}, f"as it is, {own}\n"), (["-n", "1", "--large-pages", "--seeds", "1..1"], {}, None),
+    ]
+    many = len(os.sched_getaffinity(0))
+    if many < 64:
+        wanted.append((["-n", "64", "--large-pages"], {}, f"{note}there are 64 ranks on {many} processors, and each rank takes up to 64 MiB\nas it is, none\n"))
+    environment, failed = {name: it for name, it in os.environ.items() if name != "GLIBC_TUNABLES"}, 0
+    for words, variables, text in wanted:
+        status, said = run([str(binaries / "wzrun"), *words, program], env={**environment, **variables})
+        right = said == text if text is not None else said.startswith("large pages, none\n")
+        failed += reported(status == 0 and right, f"wzrun {words}, {variables}: status {status}: {said}")
+    return failed
+
+
 def check_colours(binaries, program):
     """As colljob has them: none in a pipe, unless they are asked for."""
     failed = 0
@@ -92,11 +136,11 @@ def check_colours(binaries, program):
 def check_help(binaries):
     """Each tool says first what it is for, in the field's words."""
     failed = 0
-    for tool in ("wzcc", "wzc++", "wzrun"):
+    for tool in ("wzcc", "wzc++", "wzrun", *(["wzfort"] if (binaries / "wzfort").exists() else [])):
         status, said = run([str(binaries / tool), "--help"])
         first = said.split("\n")[0]
         failed += reported(status == 0 and first.startswith(f"{tool}: ") and "deadlocks" in first and "MPI program" in first, f"{tool} --help: status {status}: {said}")
-    return failed
+    return failed + reported("wzfort" in run([str(binaries / "wzrun"), "--help"])[1], "wzrun --help doesn't name wzfort")
 
 
 def check_compilers(binaries, out):
@@ -158,6 +202,7 @@ def check(binaries, out):
     folder = out / "calling.d"
     folder.mkdir()
     program = str(compiled(binaries, written(folder / "given.c", GIVEN), folder / "given"))
-    failed = check_words(binaries, program) + check_colours(binaries, program) + check_help(binaries) + check_compilers(binaries, folder) + check_cmake(binaries, folder) + check_spaces(binaries, folder)
+    failed = check_words(binaries, program) + check_large_pages(binaries, folder) + check_colours(binaries, program) + check_help(binaries)
+    failed += check_compilers(binaries, folder) + check_cmake(binaries, folder) + check_spaces(binaries, folder)
     print("check.py: the tools are called as mpirun and mpicc are" if failed == 0 else f"check.py: {failed} ways to call the tools failed")
     return failed
