@@ -3,12 +3,12 @@
 ROUNDS interleaved rounds, in microseconds an operation, for 2, 4 and 8 ranks, on the machine as it is and beside as many busy processes as
 it has processors. Prints the rows of two tables for bench/RESULTS.md.
 
-    bench/mpi_programs.py [ROUNDS] [--bin BIN] [--seconds S] [--longest S] [--ranks N ..] [--only idle|busy]
+    bench/mpi_programs.py [ROUNDS] [--bin [NAME=]BIN[+large] ..] [--ours] [--seconds S] [--longest S] [--ranks N ..] [--only idle|busy]
 
-3 rounds where no number is said. BIN has wzcc and wzrun, wzmpi/out/bin where it isn't named. A measure takes S seconds in each
-run, 0.3 where it isn't said. Each library is measured whose compiler is found, mpicc.openmpi or mpicc.mpich (Debian's libopenmpi-dev and
-libmpich-dev). `-` stands where a run was ended, after 40 seconds or those of --longest, before it came to the measure; (n) where n of the
-rounds came to it.
+3 rounds where no number is said. BIN has wzcc and wzrun, wzmpi/out/bin where it isn't named. Several builds, each with a NAME, are
+compared by turns, and `+large` runs one under --large-pages. A measure takes S seconds in each run, 0.3 where it isn't said. Each library is
+measured whose compiler is found, mpicc.openmpi or mpicc.mpich (Debian's libopenmpi-dev and libmpich-dev); with --ours none is. `-` stands
+where a run was ended, after 40 seconds or those of --longest, before it came to the measure; (n) where n of the rounds came to it.
 Run it with nothing beside it.
 """
 
@@ -29,16 +29,25 @@ STATES = {"idle": "The machine as it is", "busy": "Beside as many busy processes
 ROOT = {"OMPI_ALLOW_RUN_AS_ROOT": "1", "OMPI_ALLOW_RUN_AS_ROOT_CONFIRM": "1"}
 
 
-def commands(binaries, folder):
-    """Name -> what runs the program with a number of ranks, as a list of words."""
-    program = folder / "ours"
+def own_command(word, folder):
+    """The name of a build of ours, and what runs the program that it compiles."""
+    name, _, path = word.rpartition("=")
+    name, binaries = name or "wzrun", pathlib.Path(path.replace("+large", "")).resolve()
+    if not (binaries / "wzcc").exists():
+        sys.exit(f"mpi_programs.py: {binaries} has no wzcc: call `make -C wzmpi` first, or name its folder by --bin")
+    program, options = folder / f"ours-{name}", ["--large-pages"] if path.endswith("+large") else []
     subprocess.run([binaries / "wzcc", "-O2", SOURCE, "-o", program], check=True)
-    made = {"wzrun": lambda ranks: [binaries / "wzrun", "-n", str(ranks), program]}
-    for name, (word, options) in LIBRARIES.items():
+    return name, lambda ranks: [binaries / "wzrun", "-n", str(ranks), *options, program]
+
+
+def commands(options, folder):
+    """Name -> what runs the program with a number of ranks, as a list of words."""
+    made = dict(own_command(word, folder) for word in options.bin)
+    for name, (word, words) in {}.items() if options.ours else LIBRARIES.items():
         if shutil.which(f"mpicc.{word}"):
             theirs = folder / word
             subprocess.run([f"mpicc.{word}", "-O2", SOURCE, "-o", theirs], check=True)
-            made[name] = lambda ranks, word=word, options=options, theirs=theirs: [f"mpirun.{word}", *options, "-n", str(ranks), theirs]
+            made[name] = lambda ranks, word=word, words=words, theirs=theirs: [f"mpirun.{word}", *words, "-n", str(ranks), theirs]
         else:
             print(f"mpi_programs.py: there is no mpicc.{word}, so {name} isn't measured", file=sys.stderr)
     return made
@@ -111,16 +120,15 @@ def print_table(made, state, times, options):
 def main():
     parser = argparse.ArgumentParser(description=__doc__, formatter_class=argparse.RawDescriptionHelpFormatter)
     parser.add_argument("rounds", type=int, nargs="?", default=3)
-    parser.add_argument("--bin", type=pathlib.Path, default=HERE.parent / "wzmpi/out/bin")
+    parser.add_argument("--bin", nargs="+", default=[str(HERE.parent / "wzmpi/out/bin")])
+    parser.add_argument("--ours", action="store_true")
     parser.add_argument("--seconds", type=float, default=0.3)
     parser.add_argument("--longest", type=float, default=40)
     parser.add_argument("--ranks", type=int, nargs="+", default=[2, 4, 8])
     parser.add_argument("--only", choices=STATES)
     options = parser.parse_args()
-    if not (options.bin / "wzcc").exists():
-        sys.exit(f"mpi_programs.py: {options.bin} has no wzcc: call `make -C wzmpi` first, or name its folder by --bin")
     with tempfile.TemporaryDirectory() as folder:
-        made = commands(options.bin.resolve(), pathlib.Path(folder))
+        made = commands(options, pathlib.Path(folder))
         for state in STATES:
             if options.only in (None, state):
                 print_table(made, state, measured(made, state, options), options)
