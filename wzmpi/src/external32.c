@@ -36,7 +36,7 @@ static void turn_back(char *here, size_t near, const char *there, size_t far, bo
     for (size_t i = 0; i < near; i++) here[i] = i < far ? there[far - 1 - i] : fill;
 }
 
-static size_t external_length(const struct type *type, size_t many) {
+size_t external_length(const struct type *type, size_t many) {
     size_t bytes = 0;
     for (size_t i = 0; i < type->many; i++) bytes += external_bytes(type->runs[i].basic) * type->runs[i].many;
     return bytes * many;
@@ -58,6 +58,32 @@ static char *convert_run(const struct run_of *run, char *here, char *there, bool
 static void convert(const struct type *type, size_t many, char *elements, char *there, bool packs) {
     for (size_t i = 0; i < many; i++)
         for (size_t j = 0; j < type->many; j++) there = convert_run(&type->runs[j], elements + (MPI_Aint)i * type->extent + type->runs[j].at, there, packs);
+}
+
+void external_pack(const struct type *type, size_t many, const void *from, void *there) { convert(type, many, (char *)(uintptr_t)from, there, true); }
+
+/* A run of which only LENGTH bytes are there: its whole basic elements. How many bytes they have here. */
+static size_t unpack_run(const struct run_of *run, char *here, const char *there, size_t length) {
+    struct run_of whole = *run;
+    size_t one = external_bytes(run->basic);
+    if (length / one < run->many) whole.many = length / one;
+    convert_run(&whole, here, (char *)(uintptr_t)there, false);
+    return whole.many * basic_type(run->basic)->size;
+}
+
+size_t external_unpack(const struct type *type, void *to, const void *there, size_t length) {
+    size_t got = 0, element = external_length(type, 1), whole = element > 0 ? length / element : 0;
+    const char *rest = (const char *)there + whole * element;
+    char *last = (char *)to + (MPI_Aint)whole * type->extent;
+    convert(type, whole, to, (char *)(uintptr_t)there, false);
+    length -= whole * element;
+    for (size_t i = 0; i < type->many && length > 0; i++) {
+        size_t run = external_bytes(type->runs[i].basic) * type->runs[i].many;
+        got += unpack_run(&type->runs[i], last + type->runs[i].at, rest, length);
+        rest += run;
+        length -= run < length ? run : length;
+    }
+    return whole * type->size + got;
 }
 
 /* ---- the calls */

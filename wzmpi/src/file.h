@@ -4,12 +4,19 @@
 
 #include "collectives.h"
 
+/* A type of a view: as the program gave it, and as its elements lie in the file, which other representations than the machine's may have shorter. */
+struct seen_type {
+    MPI_Datatype given, lies;
+};
+
 /* What a member sees of a file: the bytes of FILETYPE, which is repeated from DISPLACEMENT on, in elements of ETYPE. */
 struct view {
     MPI_Offset displacement;
-    MPI_Datatype etype_handle, filetype_handle;
-    const struct type *etype, *filetype;
+    const struct type *etype, *filetype; /* as they lie in the file */
+    struct seen_type of_etype, of_filetype;
+    bool external; /* in the representation external32 */
 };
+size_t bytes_in_file(const struct view *view, const struct type *type, size_t many); /* of the elements of a call */
 
 /* A split collective that is begun. */
 struct split_call {

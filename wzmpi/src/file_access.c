@@ -24,7 +24,7 @@ static int judge_split(struct file *file, const struct transfer *transfer) {
 }
 
 static int judge_elements(struct file *file, const struct transfer *transfer, const struct type *type) {
-    size_t element = my_file(file)->view.etype->size, bytes = (size_t)transfer->many * type->size;
+    size_t element = my_file(file)->view.etype->size, bytes = bytes_in_file(&my_file(file)->view, type, (size_t)transfer->many);
     bool no_buffer = transfer->buffer == NULL && bytes > 0 && type->predefined;
     if (!type->committed) return refuse_file(file, MPI_ERR_TYPE, transfer->call, "the type isn't committed");
     if (no_buffer) return refuse_file(file, MPI_ERR_BUFFER, transfer->call, "the buffer is null");
@@ -75,11 +75,27 @@ static size_t move_view(struct file *file, bool writes, char *bytes, size_t leng
     return done;
 }
 
+/* What was moved, in bytes of the file and of the program's memory. */
+struct moved {
+    size_t there, here;
+};
+
+static struct moved move_external(struct file *file, const struct transfer *transfer, MPI_Offset from, int *error) {
+    const struct type *type = find_type(transfer->type);
+    size_t length = external_length(type, (size_t)transfer->many);
+    char *bytes = must(malloc(length));
+    if (transfer->writes) external_pack(type, (size_t)transfer->many, transfer->buffer, bytes);
+    struct moved moved = { move_view(file, transfer->writes, bytes, length, from, error), 0 };
+    if (transfer->writes) moved.here = moved.there == length ? (size_t)transfer->many * type->size : moved.there;
+    else moved.here = external_unpack(type, transfer->buffer, bytes, moved.there);
+    free(bytes);
+    return moved;
+}
+
 /* Of types with gaps by bytes without. What a file lacks leaves the rest of the buffer as it is. */
-static size_t move_elements(struct file *file, const struct transfer *transfer, MPI_Offset from, int *error) {
+static size_t move_native(struct file *file, const struct transfer *transfer, MPI_Offset from, int *error) {
     const struct type *type = find_type(transfer->type);
     size_t length = (size_t)transfer->many * type->size;
-    if (length == 0) return 0;
     if (type->dense) return move_view(file, transfer->writes, transfer->buffer, length, from, error);
     char *bytes = must(malloc(length));
     if (transfer->writes) pack(type, (size_t)transfer->many, transfer->buffer, bytes);
@@ -90,6 +106,13 @@ static size_t move_elements(struct file *file, const struct transfer *transfer, 
     }
     free(bytes);
     return moved;
+}
+
+static struct moved move_elements(struct file *file, const struct transfer *transfer, MPI_Offset from, int *error) {
+    if ((size_t)transfer->many * find_type(transfer->type)->size == 0) return (struct moved){ 0, 0 };
+    if (my_file(file)->view.external) return move_external(file, transfer, from, error);
+    size_t moved = move_native(file, transfer, from, error);
+    return (struct moved){ moved, moved };
 }
 
 /* ---- where it is */
@@ -130,15 +153,16 @@ int move_bytes(const struct transfer *transfer, struct file **found, MPI_Count *
     hold_up();
     code = judge(file, transfer);
     if (code != MPI_SUCCESS) return code;
-    size_t element = my_file(file)->view.etype->size;
-    MPI_Offset elements = (MPI_Offset)((size_t)transfer->many * find_type(transfer->type)->size / element);
+    const struct view *view = &my_file(file)->view;
+    MPI_Offset element = (MPI_Offset)view->etype->size, elements = (MPI_Offset)bytes_in_file(view, find_type(transfer->type), (size_t)transfer->many) / element;
     code = find_place(file, transfer, elements, &at);
     if (code != MPI_SUCCESS) return code;
     bool atomic = file->is_atomic;
     if (atomic) pthread_mutex_lock(&file->guard);
-    *moved = (MPI_Count)move_elements(file, transfer, at * (MPI_Offset)element, &error);
+    struct moved both = move_elements(file, transfer, at * element, &error);
     if (atomic) pthread_mutex_unlock(&file->guard);
-    if (transfer->where == AT_OWN) my_file(file)->position = at + *moved / (MPI_Count)element;
+    *moved = (MPI_Count)both.here;
+    if (transfer->where == AT_OWN) my_file(file)->position = at + (MPI_Offset)both.there / element;
     return error == 0 ? MPI_SUCCESS : system_error(file, error, transfer->call, file->name);
 }
 

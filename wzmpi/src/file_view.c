@@ -63,24 +63,36 @@ MPI_Offset bytes_up_to(const struct view *view, MPI_Offset end) {
 
 /* ---- the calls */
 
-/* Types of a view's own, since the program may free those that it gave. */
-static MPI_Datatype own_type(MPI_Datatype handle, const struct type **type) {
-    MPI_Datatype own = handle;
-    if (!find_type(handle)->predefined) MPI_Type_dup(handle, &own);
-    *type = find_type(own);
+size_t bytes_in_file(const struct view *view, const struct type *type, size_t many) { return view->external ? external_length(type, many) : many * type->size; }
+
+/* Types of a view's own, since the program may free those that it gave. Where elements are shorter in external32, they have no gaps there either (judge_lengths). */
+static struct seen_type own_type(const struct view *view, MPI_Datatype handle, const struct type **type) {
+    struct seen_type own = { handle, handle };
+    const struct type *given = find_type(handle);
+    size_t bytes = bytes_in_file(view, given, 1);
+    if (!given->predefined) MPI_Type_dup(handle, &own.given);
+    own.lies = own.given;
+    if (bytes != given->size) MPI_Type_contiguous((int)bytes, MPI_BYTE, &own.lies);
+    *type = find_type(own.lies);
     return own;
 }
 
-static void set_view(struct view *view, MPI_Offset displacement, MPI_Datatype etype, MPI_Datatype filetype) {
+static void set_view(struct view *view, MPI_Offset displacement, MPI_Datatype etype, MPI_Datatype filetype, bool external) {
     release_view(view);
     view->displacement = displacement;
-    view->etype_handle = own_type(etype, &view->etype);
-    view->filetype_handle = own_type(filetype, &view->filetype);
+    view->external = external;
+    view->of_etype = own_type(view, etype, &view->etype);
+    view->of_filetype = own_type(view, filetype, &view->filetype);
+}
+
+static void release(struct seen_type *seen) {
+    if (seen->lies != seen->given) MPI_Type_free(&seen->lies);
+    if (!find_type(seen->given)->predefined) MPI_Type_free(&seen->given);
 }
 
 void release_view(struct view *view) {
-    if (view->etype != NULL && !view->etype->predefined) MPI_Type_free(&view->etype_handle);
-    if (view->filetype != NULL && !view->filetype->predefined) MPI_Type_free(&view->filetype_handle);
+    if (view->etype != NULL) release(&view->of_etype);
+    if (view->filetype != NULL) release(&view->of_filetype);
 }
 
 /* The displacements within a type ascend from 0 on; of a file that is written the elements don't overlap either (MPI 4.1, 14.1.1). */
@@ -104,6 +116,20 @@ static int judge_filetype(struct file *file, const struct type *etype, const str
     return refuse_file(file, MPI_ERR_ARG, call, "the filetype has %zu bytes, which are no whole number of etypes of %zu", filetype->size, etype->size);
 }
 
+/* Where external32 has shorter elements, displacements of the type are for the machine's elements and say nothing of the file. */
+static int judge_lengths(struct file *file, const struct type *type, const char *call) {
+    if (type->dense || external_length(type, 1) == type->size) return MPI_SUCCESS;
+    return refuse_file(file, MPI_ERR_UNSUPPORTED_DATAREP, call, "a view in external32 isn't there for types with gaps that have MPI_LONG, whose elements are shorter in it");
+}
+
+static int judge_representation(struct file *file, const char *representation, const struct type *etype, const struct type *filetype, const char *call) {
+    bool external = strcmp(representation, "external32") == 0;
+    if (!external && strcmp(representation, "native") != 0 && strcmp(representation, "internal") != 0)
+        return refuse_file(file, MPI_ERR_UNSUPPORTED_DATAREP, call, "the data representation \"%s\" isn't there: native, internal and external32 are", representation);
+    int code = external ? judge_lengths(file, etype, call) : MPI_SUCCESS;
+    return external && code == MPI_SUCCESS ? judge_lengths(file, filetype, call) : code;
+}
+
 static int judge_type(struct file *file, MPI_Datatype handle, const char *call, const struct type **type) {
     *type = find_type(handle);
     if (*type == NULL && handle == MPI_DATATYPE_NULL) return refuse_file(file, MPI_ERR_TYPE, call, "the type is MPI_DATATYPE_NULL");
@@ -121,9 +147,8 @@ int MPI_File_set_view(MPI_File handle, MPI_Offset displacement, MPI_Datatype ety
     code = judge_type(file, etype_handle, call, &etype);
     if (code == MPI_SUCCESS) code = judge_type(file, filetype_handle, call, &filetype);
     if (code == MPI_SUCCESS) code = judge_filetype(file, etype, filetype, call);
+    if (code == MPI_SUCCESS) code = judge_representation(file, representation, etype, filetype, call);
     if (code != MPI_SUCCESS) return code;
-    if (strcmp(representation, "native") != 0 && strcmp(representation, "internal") != 0)
-        return refuse_file(file, MPI_ERR_UNSUPPORTED_DATAREP, call, "the data representation \"%s\" isn't there: native and internal are", representation);
     struct file_member *mine = my_file(file);
     if (displacement == MPI_DISPLACEMENT_CURRENT && (file->mode & MPI_MODE_SEQUENTIAL) == 0)
         return refuse_file(file, MPI_ERR_ARG, call, "MPI_DISPLACEMENT_CURRENT is for files of MPI_MODE_SEQUENTIAL alone");
@@ -131,10 +156,16 @@ int MPI_File_set_view(MPI_File handle, MPI_Offset displacement, MPI_Datatype ety
     if (displacement == MPI_DISPLACEMENT_CURRENT) displacement = mine->view.displacement + file->shared * (MPI_Offset)mine->view.etype->size;
     code = meet_on_file(file, call, &place);
     if (code != MPI_SUCCESS) return code;
-    set_view(&mine->view, displacement, etype_handle, filetype_handle);
+    set_view(&mine->view, displacement, etype_handle, filetype_handle, strcmp(representation, "external32") == 0);
     mine->position = 0;
     place_shared(file, place, 0);
     return code == MPI_SUCCESS && info != MPI_INFO_NULL ? MPI_File_set_info(handle, info) : code;
+}
+
+/* One that the program frees, unless it is predefined. */
+static int give_type(MPI_Datatype given, MPI_Datatype *type) {
+    *type = given;
+    return find_type(given)->predefined ? MPI_SUCCESS : MPI_Type_dup(given, type);
 }
 
 int MPI_File_get_view(MPI_File handle, MPI_Offset *displacement, MPI_Datatype *etype, MPI_Datatype *filetype, char *representation) {
@@ -143,12 +174,9 @@ int MPI_File_get_view(MPI_File handle, MPI_Offset *displacement, MPI_Datatype *e
     if (file == NULL) return code;
     const struct view *view = &my_file(file)->view;
     *displacement = view->displacement;
-    strcpy(representation, "native");
-    if (view->etype->predefined) *etype = view->etype_handle;
-    else code = MPI_Type_dup(view->etype_handle, etype);
-    if (code == MPI_SUCCESS && view->filetype->predefined) *filetype = view->filetype_handle;
-    else if (code == MPI_SUCCESS) code = MPI_Type_dup(view->filetype_handle, filetype);
-    return code;
+    strcpy(representation, view->external ? "external32" : "native");
+    code = give_type(view->of_etype.given, etype);
+    return code == MPI_SUCCESS ? give_type(view->of_filetype.given, filetype) : code;
 }
 
 int MPI_File_get_byte_offset(MPI_File handle, MPI_Offset offset, MPI_Offset *byte) {
@@ -163,11 +191,15 @@ int MPI_File_get_byte_offset(MPI_File handle, MPI_Offset offset, MPI_Offset *byt
     return code;
 }
 
-int MPI_File_get_type_extent(MPI_File handle, MPI_Datatype type, MPI_Aint *extent) {
+int MPI_File_get_type_extent(MPI_File handle, MPI_Datatype type_handle, MPI_Aint *extent) {
     int code;
     MPI_Aint low;
     struct file *file = find_file(handle, "MPI_File_get_type_extent", &code);
-    return file != NULL ? MPI_Type_get_extent(type, &low, extent) : code;
+    const struct type *type = find_type(type_handle);
+    if (file == NULL) return code;
+    code = MPI_Type_get_extent(type_handle, &low, extent);
+    if (code == MPI_SUCCESS && type->dense) *extent = (MPI_Aint)bytes_in_file(&my_file(file)->view, type, 1);
+    return code;
 }
 
 int MPI_Register_datarep(const char *name, MPI_Datarep_conversion_function *read, MPI_Datarep_conversion_function *write, MPI_Datarep_extent_function *extent, void *extra) {

@@ -93,6 +93,11 @@ void pack(const struct type *type, size_t many, const void *from, void *bytes);
 void unpack(const struct type *type, size_t many, void *to, const void *bytes);
 void unpack_part(const struct type *type, void *to, const void *bytes, size_t length); /* the first bytes of one element */
 
+/* ---- external32.c: the bytes of elements in that representation; to and from it. The second gives the bytes of the whole basic elements that LENGTH bytes have. */
+size_t external_length(const struct type *type, size_t many);
+void external_pack(const struct type *type, size_t many, const void *from, void *bytes);
+size_t external_unpack(const struct type *type, void *to, const void *bytes, size_t length);
+
 MPI_Datatype handle_of_type(struct type *type); /* one more, which the program frees */
 
 /* ---- type_contents.c: what a made type's call had */

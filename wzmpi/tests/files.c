@@ -179,6 +179,45 @@ static void errors(void) {
     HOLDS(flag);
 }
 
+/* In external32: big-endian, and MPI_LONG has four bytes there. */
+static void external(void) {
+    unsigned char bytes[24];
+    long longs[3] = { 1, -2, 3 }, got[4] = { 0 };
+    double number = 1.0, back = 0;
+    MPI_Offset at, displacement;
+    MPI_Aint extent;
+    MPI_Datatype etype, filetype, gaps;
+    char representation[MPI_MAX_DATAREP_STRING];
+    MPI_Status status;
+    int count;
+    MPI_Type_vector(2, 1, 2, MPI_INT, &gaps);
+    MPI_Type_commit(&gaps);
+    open_file(MPI_MODE_CREATE | MPI_MODE_RDWR);
+    MPI_File_set_view(file, 100 * rank, MPI_LONG, MPI_LONG, "external32", MPI_INFO_NULL);
+    HOLDS(MPI_File_write(file, longs, 3, MPI_LONG, &status) == MPI_SUCCESS);
+    MPI_Get_count(&status, MPI_LONG, &count);
+    MPI_File_get_position(file, &at);
+    MPI_File_get_type_extent(file, MPI_LONG, &extent);
+    HOLDS(count == 3 && at == 3 && extent == 4);
+    MPI_File_read_at(file, 0, got, 3, MPI_LONG, &status);
+    HOLDS(got[0] == 1 && got[1] == -2 && got[2] == 3);
+    MPI_File_get_view(file, &displacement, &etype, &filetype, representation);
+    HOLDS(displacement == 100 * rank && etype == MPI_LONG && filetype == MPI_LONG && strcmp(representation, "external32") == 0);
+    MPI_File_set_view(file, 100 * rank + 12, MPI_INT, gaps, "external32", MPI_INFO_NULL);
+    HOLDS(MPI_File_write_at_all(file, 1, &number, 1, MPI_DOUBLE, &status) == MPI_SUCCESS);
+    HOLDS(MPI_File_read_at(file, 1, &back, 1, MPI_DOUBLE, &status) == MPI_SUCCESS && back == 1.0);
+    MPI_File_set_view(file, 100 * rank, MPI_BYTE, MPI_BYTE, "native", MPI_INFO_NULL);
+    MPI_File_read_at(file, 0, bytes, 24, MPI_BYTE, &status);
+    HOLDS(bytes[0] == 0 && bytes[3] == 1 && bytes[4] == 0xff && bytes[7] == 0xfe && bytes[11] == 3);
+    HOLDS(bytes[20] == 0x3f && bytes[21] == 0xf0);
+    MPI_Barrier(MPI_COMM_WORLD);
+    MPI_File_set_view(file, 100 * (size - 1) + 20, MPI_BYTE, MPI_BYTE, "external32", MPI_INFO_NULL);
+    HOLDS(MPI_File_read_at(file, 0, got, 4, MPI_LONG, &status) == MPI_SUCCESS);
+    MPI_Get_elements(&status, MPI_LONG, &count);
+    HOLDS(count == 2 && got[0] == 0x3ff00000 && got[1] == 0);
+    MPI_Type_free(&gaps);
+}
+
 /* A device that is always full. */
 static void full(void) {
     MPI_File device;
@@ -216,7 +255,7 @@ static const struct {
     const char *name;
     void (*run)(void);
 } cases[] = {
-    CASE(blocks), CASE(views), CASE(matrices), CASE(shared), CASE(later), CASE(errors), CASE(full), CASE(modes),
+    CASE(blocks), CASE(views), CASE(matrices), CASE(shared), CASE(later), CASE(errors), CASE(full), CASE(modes), CASE(external),
 };
 
 int main(int argc, char **argv) {

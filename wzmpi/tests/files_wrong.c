@@ -140,6 +140,17 @@ static void other_size(void) {
     MPI_File_set_size(file, rank == 1 ? 5 : 6);
     if (rank != 0) sleep(2);
 }
+static void representation(void) {
+    open_file(MPI_MODE_CREATE | MPI_MODE_RDWR);
+    if (rank == 1) MPI_File_set_view(file, 0, MPI_INT, MPI_INT, "external64", MPI_INFO_NULL);
+}
+static void longs_with_gaps(void) {
+    MPI_Datatype turns;
+    MPI_Type_vector(2, 1, 2, MPI_LONG, &turns);
+    MPI_Type_commit(&turns);
+    open_file(MPI_MODE_CREATE | MPI_MODE_RDWR);
+    if (rank == 1) MPI_File_set_view(file, 0, MPI_LONG, turns, "external32", MPI_INFO_NULL);
+}
 
 #define CASE(name) { #name, name }
 static const struct {
@@ -148,7 +159,7 @@ static const struct {
 } cases[] = {
     CASE(two_modes), CASE(read_only), CASE(write_only), CASE(other_name), CASE(lacking_close), CASE(lacking_write), CASE(two_collectives), CASE(part_of_etype),
     CASE(bad_filetype), CASE(back_filetype), CASE(uncommitted), CASE(negative), CASE(before_beginning), CASE(two_splits), CASE(other_end), CASE(no_end), CASE(closed),
-    CASE(sequential), CASE(full), CASE(fatal), CASE(other_size),
+    CASE(sequential), CASE(full), CASE(fatal), CASE(other_size), CASE(representation), CASE(longs_with_gaps),
 };
 
 int main(int argc, char **argv) {
