@@ -51,7 +51,7 @@ recorder:
 install: all recorder install-program install-recorder
 	@if command -v $(firstword $(CC)) > /dev/null; then $(MAKE) --no-print-directory -C bindings install; fi
 	@if [ "$(MPI_CALLS)" ] && command -v $(firstword $(CC)) > /dev/null; then $(MAKE) --no-print-directory -C wzmpi install; fi
-	@if [ "$(MPI_CALLS)" ] && command -v $(firstword $(CC)) > /dev/null; then cp docs/wzcc.1 docs/wzrun.1 "$(SHARE)/man/man1"; fi
+	@if [ "$(MPI_CALLS)" ] && command -v $(firstword $(CC)) > /dev/null; then cp docs/wzcc.1 docs/wzfort.1 docs/wzrun.1 "$(SHARE)/man/man1"; fi
 
 install-program: program
 	mkdir -p "$(BIN)" "$(SHARE)/man/man1" "$(BASH_WORDS)" "$(ZSH_WORDS)"
@@ -70,7 +70,7 @@ install-recorder:
 	cp completions/_wzrecord "$(ZSH_WORDS)"
 
 uninstall:
-	rm -f $(addprefix "$(BIN)"/,colljob wzrecord colljob-mpi) $(addprefix "$(SHARE)"/man/man1/,colljob.1 wzrecord.1 wzcc.1 wzrun.1)
+	rm -f $(addprefix "$(BIN)"/,colljob wzrecord colljob-mpi) $(addprefix "$(SHARE)"/man/man1/,colljob.1 wzrecord.1 wzcc.1 wzfort.1 wzrun.1)
 	rm -f $(addprefix "$(BASH_WORDS)"/,colljob wzrecord) $(addprefix "$(ZSH_WORDS)"/,_colljob _wzrecord)
 	rm -rf "$(RECORDER)"
 	$(MAKE) --no-print-directory -C bindings uninstall
