@@ -19,7 +19,7 @@ import sys
 import make_calls
 
 HANDLES = {"MPI_Comm": "COMM", "MPI_Group": "GROUP", "MPI_Op": "OP", "MPI_Request": "REQUEST", "MPI_Info": "INFO", "MPI_Errhandler": "ERRHANDLER", "MPI_Message": "TAKEN",
-           "MPI_Win": "WINDOW", "MPI_File": "FILE_"}
+           "MPI_Win": "WINDOW", "MPI_File": "FILE_", "MPI_Session": "SESSION"}
 KINDS = {"MPI_Aint": 8, "MPI_Offset": 8, "MPI_Count": 8, "MPI_Fint": 4, "int": 4, "COUNT": 4, "COUNTS": 4, "PLACES": 4}
 LOGICAL = {"flag", "commute", "reorder", "high", "periods", "remain", "weighted"}
 WEIGHTS = {"sourceweights", "destweights", "weights"}
@@ -37,7 +37,10 @@ OWN = {
     "Win_set_attr": "MPI_Win win; integer keyval; integer8 value", "Win_get_attr": "MPI_Win win; integer keyval; integer8 value; logical flag",
     "Attr_put": "MPI_Comm comm; integer keyval; integer value", "Attr_get": "MPI_Comm comm; integer keyval; integer value; logical flag",
     "Errhandler_create": "external function; MPI_Errhandler errhandler", "Comm_create_errhandler": "external function; MPI_Errhandler errhandler", "Win_create_errhandler": "external function; MPI_Errhandler errhandler",
-    "File_create_errhandler": "external function; MPI_Errhandler errhandler",
+    "File_create_errhandler": "external function; MPI_Errhandler errhandler", "Session_create_errhandler": "external function; MPI_Errhandler errhandler",
+    "Comm_spawn": "character command; choice argv; integer maxprocs; MPI_Info info; integer root; MPI_Comm comm; MPI_Comm intercomm; choice array_of_errcodes",
+    "Comm_spawn_multiple": "integer count; choice array_of_commands; choice array_of_argv; choice array_of_maxprocs; choice array_of_info; integer root; MPI_Comm comm; MPI_Comm intercomm; "
+                           "choice array_of_errcodes",
 }
 # Calls of MPI 1 whose addresses are default integers in Fortran.
 OLD = {"Address", "Type_extent", "Type_lb", "Type_ub", "Type_hvector", "Type_hindexed", "Type_struct"}
@@ -64,7 +67,7 @@ def calls_of(path):
         for name, _, extra, *_ in forms:
             if name in OWN:
                 yield call, name, []
-            elif name not in SKIPPED and not re.search(r"_(f2c|c2f|f2f08|c2f08|f082c|f082f)$", name):
+            elif name not in SKIPPED and not re.search(r"^T_|_(f2c|c2f|f2f08|c2f08|f082c|f082f)$", name):  # the tool information interface is C's alone
                 yield call, name, [Parameter(it) for it in [*call.parameters, *extra]]
 
 
@@ -165,7 +168,7 @@ def constants(header):
     for name in ("ADDRESS", "OFFSET", "COUNT"):
         known[f"MPI_{name}_KIND"] = (None, 8)
     known["MPI_INTEGER_KIND"] = (None, 4)
-    return {name: it for name, it in known.items() if not name.endswith("_")}
+    return {name: it for name, it in known.items() if not name.endswith("_") and not name.startswith("MPI_T_")}
 
 
 # Words at addresses that the library knows (MPI 4.1, 2.5.4): common blocks, one in each rank's program.
@@ -297,7 +300,7 @@ TYPES = [*HANDLES, "MPI_Datatype"]
 # The program's functions, as mpi_f08 declares them: name, and parameters with their types.
 FUNCTION_TYPES = {
     "MPI_User_function": [("invec", "type(c_ptr), value"), ("inoutvec", "type(c_ptr), value"), ("len", "integer"), ("datatype", "type(MPI_Datatype)")],
-    **{f"MPI_{it}_errhandler_function": [("handle", f"type(MPI_{it})"), ("error_code", "integer")] for it in ("Comm", "Win", "File")},
+    **{f"MPI_{it}_errhandler_function": [("handle", f"type(MPI_{it})"), ("error_code", "integer")] for it in ("Comm", "Win", "File", "Session")},
     **{f"MPI_{it}_copy_attr_function": [("old", f"type(MPI_{of})"), ("keyval", "integer"), ("extra_state", "integer(8)"), ("attribute_val_in", "integer(8)"),
                                         ("attribute_val_out", "integer(8)"), ("flag", "logical"), ("ierror", "integer")]
        for it, of in (("Comm", "Comm"), ("Win", "Win"), ("Type", "Datatype"))},
@@ -333,6 +336,7 @@ def module_f08(calls, known):
     for name, block, shape in PLACES:
         of = "type(MPI_Status)" if name.startswith("MPI_STATUS") else "integer"
         lines.append(f"  {of}, bind(C, name='mpi_wz_{block}_') :: {name}{'(1)' if name == 'MPI_STATUSES_IGNORE' else '' if of != 'integer' else shape}")
+    lines += [f"  character(len=1), bind(C, name='mpi_wz_{block}_') :: {name}(1{more})" for name, block, more in (("MPI_ARGV_NULL", "argv_null", ""), ("MPI_ARGVS_NULL", "argvs_null", ", 1"))]
     lines += [f"  external :: {it}" for it in EXTERNALS]
     lines += ["  interface MPI_Sizeof", *(f"    module procedure wz_sizeof_{it}" for it, _ in SIZES), "  end interface"]
     for sign, word in (("==", "same"), ("/=", "other")):

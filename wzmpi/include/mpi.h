@@ -28,6 +28,7 @@ typedef struct wz_errhandler_handle_ *MPI_Errhandler;
 typedef struct wz_win_handle_ *MPI_Win;
 typedef struct wz_file_handle_ *MPI_File;
 typedef struct wz_message_handle_ *MPI_Message;
+typedef struct wz_session_handle_ *MPI_Session;
 #define WZ_HANDLE_(type, kind, number) ((type)(((uintptr_t)(kind) << 56) | (uintptr_t)(number)))
 
 typedef ptrdiff_t MPI_Aint;
@@ -50,6 +51,8 @@ typedef struct MPI_Status {
 #define MPI_STATUS_IGNORE ((MPI_Status *)0)
 #define MPI_STATUSES_IGNORE ((MPI_Status *)0)
 #define MPI_ERRCODES_IGNORE ((int *)0)
+#define MPI_ARGV_NULL ((char **)0)
+#define MPI_ARGVS_NULL ((char ***)0)
 
 #define MPI_IN_PLACE ((void *)-1)
 #define MPI_BOTTOM ((void *)0)
@@ -74,6 +77,7 @@ typedef struct MPI_Status {
 #define MPI_MESSAGE_NO_PROC WZ_HANDLE_(MPI_Message, 8, 1)
 #define MPI_WIN_NULL WZ_HANDLE_(MPI_Win, 9, 0)
 #define MPI_FILE_NULL WZ_HANDLE_(MPI_File, 10, 0)
+#define MPI_SESSION_NULL WZ_HANDLE_(MPI_Session, 11, 0)
 
 /* Types, in the order of types.c. */
 #define MPI_CHAR 0x3c000001
@@ -194,6 +198,8 @@ typedef struct MPI_Status {
 #define MPI_MAX_INFO_KEY 255
 #define MPI_MAX_INFO_VAL 1024
 #define MPI_MAX_PORT_NAME 256
+#define MPI_MAX_PSET_NAME_LEN 256
+#define MPI_MAX_STRINGTAG_LEN 256
 
 enum { MPI_THREAD_SINGLE, MPI_THREAD_FUNNELED, MPI_THREAD_SERIALIZED, MPI_THREAD_MULTIPLE };
 /* Files (MPI 4.1, 14). */
@@ -277,10 +283,41 @@ typedef int MPI_Win_delete_attr_function(MPI_Win win, int keyval, void *value, v
 int wz_win_dup_fn_(MPI_Win win, int keyval, void *extra, void *value, void *copied, int *flag);
 #define MPI_WIN_DUP_FN wz_win_dup_fn_
 
+typedef void MPI_Session_errhandler_function(MPI_Session *session, int *code, ...);
 typedef void MPI_File_errhandler_function(MPI_File *file, int *code, ...);
 typedef int MPI_Datarep_extent_function(MPI_Datatype datatype, MPI_Aint *extent, void *extra);
 typedef int MPI_Datarep_conversion_function(void *userbuf, MPI_Datatype datatype, int count, void *filebuf, MPI_Offset position, void *extra);
 #define MPI_CONVERSION_FN_NULL ((MPI_Datarep_conversion_function *)0)
+
+/* The tool information interface (MPI 4.1, 15.3). It has no variables, so its handles name nothing. */
+typedef struct wz_t_enum_ *MPI_T_enum;
+typedef struct wz_t_cvar_ *MPI_T_cvar_handle;
+typedef struct wz_t_pvar_ *MPI_T_pvar_handle;
+typedef struct wz_t_session_ *MPI_T_pvar_session;
+#define MPI_T_ENUM_NULL ((MPI_T_enum)0)
+#define MPI_T_CVAR_HANDLE_NULL ((MPI_T_cvar_handle)0)
+#define MPI_T_PVAR_HANDLE_NULL ((MPI_T_pvar_handle)0)
+#define MPI_T_PVAR_ALL_HANDLES ((MPI_T_pvar_handle)-1)
+#define MPI_T_PVAR_SESSION_NULL ((MPI_T_pvar_session)0)
+typedef enum MPI_T_source_order { MPI_T_SOURCE_ORDERED, MPI_T_SOURCE_UNORDERED } MPI_T_source_order;
+enum {
+    MPI_T_VERBOSITY_USER_BASIC = 221, MPI_T_VERBOSITY_USER_DETAIL, MPI_T_VERBOSITY_USER_ALL, MPI_T_VERBOSITY_TUNER_BASIC, MPI_T_VERBOSITY_TUNER_DETAIL,
+    MPI_T_VERBOSITY_TUNER_ALL, MPI_T_VERBOSITY_MPIDEV_BASIC, MPI_T_VERBOSITY_MPIDEV_DETAIL, MPI_T_VERBOSITY_MPIDEV_ALL
+};
+enum {
+    MPI_T_BIND_NO_OBJECT = 9700, MPI_T_BIND_MPI_COMM, MPI_T_BIND_MPI_DATATYPE, MPI_T_BIND_MPI_ERRHANDLER, MPI_T_BIND_MPI_FILE, MPI_T_BIND_MPI_GROUP, MPI_T_BIND_MPI_OP,
+    MPI_T_BIND_MPI_REQUEST, MPI_T_BIND_MPI_WIN, MPI_T_BIND_MPI_MESSAGE, MPI_T_BIND_MPI_INFO, MPI_T_BIND_MPI_SESSION
+};
+enum { MPI_T_SCOPE_CONSTANT = 60438, MPI_T_SCOPE_READONLY, MPI_T_SCOPE_LOCAL, MPI_T_SCOPE_GROUP, MPI_T_SCOPE_GROUP_EQ, MPI_T_SCOPE_ALL, MPI_T_SCOPE_ALL_EQ };
+enum {
+    MPI_T_PVAR_CLASS_STATE = 240, MPI_T_PVAR_CLASS_LEVEL, MPI_T_PVAR_CLASS_SIZE, MPI_T_PVAR_CLASS_PERCENTAGE, MPI_T_PVAR_CLASS_HIGHWATERMARK, MPI_T_PVAR_CLASS_LOWWATERMARK,
+    MPI_T_PVAR_CLASS_COUNTER, MPI_T_PVAR_CLASS_AGGREGATE, MPI_T_PVAR_CLASS_TIMER, MPI_T_PVAR_CLASS_GENERIC
+};
+enum {
+    MPI_T_ERR_INVALID = 200, MPI_T_ERR_MEMORY, MPI_T_ERR_NOT_INITIALIZED, MPI_T_ERR_CANNOT_INIT, MPI_T_ERR_INVALID_INDEX, MPI_T_ERR_INVALID_ITEM, MPI_T_ERR_INVALID_HANDLE,
+    MPI_T_ERR_OUT_OF_HANDLES, MPI_T_ERR_OUT_OF_SESSIONS, MPI_T_ERR_INVALID_SESSION, MPI_T_ERR_CVAR_SET_NOT_NOW, MPI_T_ERR_CVAR_SET_NEVER, MPI_T_ERR_PVAR_NO_STARTSTOP,
+    MPI_T_ERR_PVAR_NO_WRITE, MPI_T_ERR_PVAR_NO_ATOMIC, MPI_T_ERR_INVALID_NAME, MPI_T_ERR_NOT_ACCESSIBLE, MPI_T_ERR_NOT_SUPPORTED
+};
 
 /* Where the next call of this thread stands in the program. */
 void wz_note_line_(const char *line);

@@ -18,7 +18,7 @@ enum { MOST_RANKS = 64 };
 
 enum { TABLE_NUMBER_BITS = 24, FIRST_MADE = 64 }; /* the numbers below FIRST_MADE are those of mpi.h's own objects, which no table has */
 
-enum kind { COMM = 1, GROUP, TYPE, OP, REQUEST, INFO, ERRHANDLER, TAKEN, WINDOW, FILE_, KINDS }; /* TAKEN: a message that MPI_Mprobe took out */
+enum kind { COMM = 1, GROUP, TYPE, OP, REQUEST, INFO, ERRHANDLER, TAKEN, WINDOW, FILE_, SESSION, KINDS }; /* TAKEN: a message that MPI_Mprobe took out */
 
 /* A rank's objects of one kind, by their numbers. A handle has the generation of its number too, so that one which was freed is known as such. */
 struct table {
@@ -47,7 +47,9 @@ struct wait {
 
 struct rank {
     int number, status;
-    bool begun;
+    bool begun;             /* it has called MPI_Init, or has had a session */
+    bool world, world_over; /* it has called MPI_Init, and MPI_Finalize */
+    int sessions;           /* that it has */
     atomic_bool finalized;
     atomic_bool ended;
     atomic_int thread; /* the system's number of its main thread; 0 before that begins */
@@ -116,6 +118,10 @@ struct rank *this_rank(const char *call);
 struct rank *rank_of_code(const void *address);
 
 void *must(void *memory); /* ends the run where there is no memory */
+
+/* ---- its beginning and end (world.c): by MPI_Init, or by a session */
+void begin_model(struct rank *rank, int level);
+void end_model(struct rank *rank);
 
 /* ---- handles (handles.c) */
 uintptr_t add_handle(enum kind kind, void *object);                 /* of this thread's rank */

@@ -1,10 +1,11 @@
 /* The calls that make communicators. All members of the parent take part in a collective of it, and then those of the new one come to it. */
+#include "attributes.h"
 #include "collectives.h"
 #include "diagnostics.h"
 
 /* Names what is made at a place of a communicator's calls. */
 static uint64_t key_at(uint64_t place, int color) { return place << 32 | (uint32_t)color; }
-static const uint64_t GROUP_KEY = 1ull << 63, INTER_KEY = 1ull << 62;
+static const uint64_t GROUP_KEY = 1ull << 63, INTER_KEY = 1ull << 62, TEXT_KEY = 3ull << 62;
 
 /* All members of a communicator give some bytes, and each gets those of all. */
 static int exchange(struct comm *comm, enum function function, const char *name, const void *bytes, size_t length, struct request **done) {
@@ -195,6 +196,31 @@ int MPI_Comm_create_group(MPI_Comm handle, MPI_Group from, int tag, MPI_Comm *ma
     return code;
 }
 
+/* ---- communicators of a group alone (MPI 4.1, 7.4.2 and 7.6.2) */
+
+static uint64_t hash_of(const char *text) { /* FNV-1a */
+    uint64_t hash = 0xcbf29ce484222325u;
+    for (; *text != '\0'; text++) hash = (hash ^ (unsigned char)*text) * 0x100000001b3u;
+    return hash;
+}
+
+static int create_from_group(MPI_Group from, const char *tag, MPI_Errhandler wanted, MPI_Comm *made, const char *call) {
+    this_rank(call);
+    const struct group *group = find_group(from);
+    *made = MPI_COMM_NULL;
+    if (group == NULL) return refuse(NULL, MPI_ERR_GROUP, call, "there is no such group, or it was freed");
+    if (errhandler_of(wanted) == NULL) return refuse(NULL, MPI_ERR_ARG, call, "there is no such error handler");
+    if (group->size == 0) return MPI_SUCCESS;
+    if (!is_in(group->ranks, group->size)) return refuse(NULL, MPI_ERR_GROUP, call, "this rank isn't in the group");
+    *made = join_comm(world_comm(), TEXT_KEY | hash_of(tag) >> 2, call, group->ranks, group->size, 0);
+    return set_errhandler(find_comm(*made), wanted, call);
+}
+
+int MPI_Comm_create_from_group(MPI_Group group, const char *tag, MPI_Info info, MPI_Errhandler handler, MPI_Comm *made) {
+    (void)info;
+    return create_from_group(group, tag, handler, made, "MPI_Comm_create_from_group");
+}
+
 /* ---- intercommunicators */
 
 /* The leaders tell each other their groups. */
@@ -249,6 +275,23 @@ int MPI_Intercomm_create(MPI_Comm local, int leader, MPI_Comm peer, int remote, 
     memcpy(ranks, before ? mine : theirs, sizeof *ranks * (size_t)(before ? comm->size : many));
     memcpy(ranks + (before ? comm->size : many), before ? theirs : mine, sizeof *ranks * (size_t)(before ? many : comm->size));
     *made = join_comm(world_comm(), INTER_KEY | (uint32_t)tag, call, ranks, comm->size + many, before ? comm->size : many);
+    return code;
+}
+
+/* The remote group counts at the leader alone, as the peer communicator of MPI_Intercomm_create does. */
+int MPI_Intercomm_create_from_groups(MPI_Group near, int leader, MPI_Group far, int remote, const char *tag, MPI_Info info, MPI_Errhandler handler, MPI_Comm *made) {
+    const char *call = "MPI_Intercomm_create_from_groups";
+    MPI_Comm local;
+    (void)info;
+    *made = MPI_COMM_NULL;
+    int code = create_from_group(near, tag, handler, &local, call);
+    if (code != MPI_SUCCESS || local == MPI_COMM_NULL) return code;
+    const struct group *group = find_group(far);
+    bool leads = my_member(find_comm(local)) == leader;
+    if (leads && (group == NULL || remote < 0 || remote >= group->size)) return refuse(NULL, MPI_ERR_GROUP, call, "there is no rank %d in the remote group", remote);
+    code = MPI_Intercomm_create(local, leader, MPI_COMM_WORLD, leads ? group->ranks[remote] : 0, (int)(hash_of(tag) & 0xfffffff), made);
+    if (code == MPI_SUCCESS) code = set_errhandler(find_comm(*made), handler, call);
+    MPI_Comm_free(&local);
     return code;
 }
 

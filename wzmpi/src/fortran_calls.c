@@ -264,3 +264,30 @@ void mpi_file_create_errhandler_(void (*function)(void), int *handle, int *ierro
     int code = MPI_File_create_errhandler((MPI_File_errhandler_function *)function, &made);
     make_handler(code, made, handle, ierror);
 }
+
+void mpi_session_create_errhandler_(void (*function)(void), int *handle, int *ierror) {
+    MPI_Errhandler made = MPI_ERRHANDLER_NULL;
+    BEGIN();
+    int code = MPI_Session_create_errhandler((MPI_Session_errhandler_function *)function, &made);
+    make_handler(code, made, handle, ierror);
+}
+
+/* ---- further processes: the calls are refused, whatever is to be started */
+
+void mpi_comm_spawn_(const char *command, const char *words, int *most, int *info, int *root, int *comm, int *made, int *codes, int *ierror) {
+    (void)command, (void)words, (void)info, (void)codes;
+    BEGIN();
+    MPI_Comm none;
+    int code = MPI_Comm_spawn("", MPI_ARGV_NULL, *most, MPI_INFO_NULL, *root, from_fortran(COMM, *comm), &none, MPI_ERRCODES_IGNORE);
+    *made = to_fortran(none);
+    END(code);
+}
+
+void mpi_comm_spawn_multiple_(int *many, const char *commands, const char *words, int *most, int *infos, int *root, int *comm, int *made, int *codes, int *ierror) {
+    (void)commands, (void)words, (void)infos, (void)codes;
+    BEGIN();
+    MPI_Comm none;
+    int code = MPI_Comm_spawn_multiple(*many, NULL, MPI_ARGVS_NULL, most, NULL, *root, from_fortran(COMM, *comm), &none, MPI_ERRCODES_IGNORE);
+    *made = to_fortran(none);
+    END(code);
+}

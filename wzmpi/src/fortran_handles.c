@@ -62,6 +62,7 @@ CONVERTED(Errhandler, MPI_Errhandler, ERRHANDLER)
 CONVERTED(Message, MPI_Message, TAKEN)
 CONVERTED(Win, MPI_Win, WINDOW)
 CONVERTED(File, MPI_File, FILE_)
+CONVERTED(Session, MPI_Session, SESSION)
 
 MPI_Datatype MPI_Type_f2c(MPI_Fint type) { return type; }
 

@@ -110,7 +110,8 @@ static void *play(void *given) {
     be_main();
     if (!the_run.one_folder) unshare(CLONE_FS);
     me->status = run_main(start->run, start->argc, start->argv);
-    if (me->begun && !atomic_load(&me->finalized) && me->status == 0) warn_at_end(me->number, NULL, "ended without MPI_Finalize");
+    if (me->begun && !atomic_load(&me->finalized) && me->status == 0)
+        warn_at_end(me->number, NULL, me->sessions > 0 ? "ended without MPI_Session_finalize" : "ended without MPI_Finalize");
     sigaltstack(&none, NULL);
     free(stack.ss_sp);
     atomic_store(&me->ended, true);

@@ -60,12 +60,25 @@ void begin_run(int size) {
 
 /* ---- MPI_Init and MPI_Finalize */
 
+/* The highest level that was asked for holds for all. */
+void begin_model(struct rank *rank, int level) {
+    if (!rank->begun || rank->finalized) be_main();
+    if (level > rank->level) rank->level = level;
+    rank->begun = true;
+    rank->finalized = false;
+}
+
+void end_model(struct rank *rank) {
+    if (rank->sessions > 0 || rank->world != rank->world_over) return;
+    warn_of_left(rank);
+    rank->finalized = true;
+}
+
 static int initialise(int level, const char *call) {
     struct rank *me = this_rank(call);
-    if (me->begun) return refuse(NULL, MPI_ERR_OTHER, call, "MPI_Init was called before");
-    me->begun = true;
-    me->level = level;
-    be_main();
+    if (me->world) return refuse(NULL, MPI_ERR_OTHER, call, "MPI_Init was called before");
+    me->world = true;
+    begin_model(me, level);
     return MPI_SUCCESS;
 }
 
@@ -92,23 +105,23 @@ int MPI_Is_thread_main(int *flag) {
 
 int MPI_Initialized(int *flag) {
     const struct rank *me = current_rank != NULL ? current_rank : rank_of_address(__builtin_return_address(0)); /* any thread may ask */
-    *flag = me != NULL && me->begun;
+    *flag = me != NULL && me->world;
     return MPI_SUCCESS;
 }
 
 int MPI_Finalized(int *flag) {
     const struct rank *me = current_rank != NULL ? current_rank : rank_of_address(__builtin_return_address(0));
-    *flag = me != NULL && me->finalized;
+    *flag = me != NULL && me->world_over;
     return MPI_SUCCESS;
 }
 
 int MPI_Finalize(void) {
     struct rank *me = this_rank("MPI_Finalize");
-    if (!me->begun || me->finalized) return refuse(NULL, MPI_ERR_OTHER, "MPI_Finalize", me->begun ? "MPI_Finalize was called before" : "MPI_Init wasn't called before");
+    if (!me->world || me->world_over) return refuse(NULL, MPI_ERR_OTHER, "MPI_Finalize", me->world ? "MPI_Finalize was called before" : "MPI_Init wasn't called before");
     delete_attributes(find_comm(MPI_COMM_SELF), MPI_COMM_SELF);
     delete_attributes(world_comm(), MPI_COMM_WORLD);
-    warn_of_left(me);
-    me->finalized = true;
+    me->world_over = true;
+    end_model(me);
     return MPI_SUCCESS;
 }
 

@@ -1,5 +1,6 @@
 /* Programs without a mistake, by calls that few programs have: more NAME runs one of them, which says nothing and ends with 0. */
 #include <mpi.h>
+#include <stdbool.h>
 #include <stdio.h>
 #include <stdlib.h>
 #include <string.h>
@@ -188,18 +189,162 @@ static void fortran(void) {
     HOLDS(real == again);
 }
 
+/* ---- sessions, in place of MPI_Init and beside it */
+
+static MPI_Comm comm_of(MPI_Session session, const char *set) {
+    MPI_Group group;
+    MPI_Comm comm;
+    MPI_Group_from_session_pset(session, set, &group);
+    MPI_Comm_create_from_group(group, "more.c", MPI_INFO_NULL, MPI_ERRORS_ARE_FATAL, &comm);
+    MPI_Group_free(&group);
+    return comm;
+}
+
+static int sum_over(MPI_Comm comm) {
+    int one = 1, sum = 0;
+    MPI_Allreduce(&one, &sum, 1, MPI_INT, MPI_SUM, comm);
+    return sum;
+}
+
+/* The process sets, and a communicator of each; twice, one session after the other. */
+static void session_alone(void) {
+    char set[MPI_MAX_PSET_NAME_LEN], text[20];
+    int many, length = 0, flag;
+    MPI_Session session;
+    MPI_Info info;
+    for (int turn = 0; turn < 2; turn++) {
+        MPI_Session_init(MPI_INFO_NULL, MPI_ERRORS_ARE_FATAL, &session);
+        MPI_Session_get_num_psets(session, MPI_INFO_NULL, &many);
+        MPI_Session_get_nth_pset(session, MPI_INFO_NULL, 0, &length, NULL);
+        HOLDS(many == 2 && length == 12);
+        MPI_Session_get_nth_pset(session, MPI_INFO_NULL, 0, &length, set);
+        HOLDS(strcmp(set, "mpi://WORLD") == 0);
+        MPI_Session_get_pset_info(session, set, &info);
+        MPI_Info_get(info, "mpi_size", 19, text, &flag);
+        MPI_Info_free(&info);
+        MPI_Comm world = comm_of(session, set), self = comm_of(session, "mpi://SELF");
+        MPI_Comm_size(world, &size);
+        HOLDS(flag && atoi(text) == size && sum_over(world) == size && sum_over(self) == 1);
+        MPI_Initialized(&flag);
+        HOLDS(!flag);
+        MPI_Comm_free(&self);
+        MPI_Comm_free(&world);
+        MPI_Session_finalize(&session);
+        HOLDS(session == MPI_SESSION_NULL);
+        length = 0;
+    }
+}
+
+/* One that outlives MPI_Finalize. */
+static void session_longer(void) {
+    char level[MPI_MAX_INFO_VAL];
+    int flag;
+    MPI_Session session;
+    MPI_Info info;
+    MPI_Init(NULL, NULL);
+    MPI_Info_create(&info);
+    MPI_Info_set(info, "thread_level", "MPI_THREAD_MULTIPLE");
+    MPI_Session_init(info, MPI_ERRORS_RETURN, &session);
+    MPI_Info_free(&info);
+    MPI_Session_get_info(session, &info);
+    MPI_Info_get(info, "thread_level", MPI_MAX_INFO_VAL - 1, level, &flag);
+    HOLDS(flag && strcmp(level, "MPI_THREAD_MULTIPLE") == 0);
+    MPI_Info_free(&info);
+    MPI_Comm world = comm_of(session, "mpi://WORLD");
+    MPI_Comm_size(MPI_COMM_WORLD, &size);
+    MPI_Finalize();
+    MPI_Finalized(&flag);
+    HOLDS(flag && sum_over(world) == size);
+    MPI_Comm_free(&world);
+    MPI_Session_finalize(&session);
+}
+
+static int calls_of_handler;
+static void count_call(MPI_Session *session, int *code, ...) { calls_of_handler += *session != MPI_SESSION_NULL && *code == MPI_ERR_ARG; }
+
+/* Its error handler judges what is asked of it. */
+static void session_errors(void) {
+    MPI_Session session;
+    MPI_Errhandler handler, got;
+    MPI_Group group;
+    MPI_Session_create_errhandler(count_call, &handler);
+    MPI_Session_init(MPI_INFO_NULL, handler, &session);
+    HOLDS(MPI_Group_from_session_pset(session, "mpi://NONE", &group) == MPI_ERR_ARG && calls_of_handler == 1);
+    HOLDS(MPI_Session_call_errhandler(session, MPI_ERR_ARG) == MPI_SUCCESS && calls_of_handler == 2);
+    MPI_Session_get_errhandler(session, &got);
+    HOLDS(got == handler);
+    MPI_Errhandler_free(&got);
+    MPI_Errhandler_free(&handler);
+    MPI_Session_set_errhandler(session, MPI_ERRORS_RETURN);
+    HOLDS(MPI_Group_from_session_pset(session, "mpi://NONE", &group) == MPI_ERR_ARG && calls_of_handler == 2);
+    MPI_Session_finalize(&session);
+}
+
+/* The even ranks and the odd ones, as two groups and between the two. */
+static void group_comms(void) {
+    MPI_Group all, mine, theirs;
+    MPI_Comm near, between, none = MPI_COMM_SELF;
+    int range[1][3] = { { rank % 2, size - 1, 2 } }, other[1][3] = { { 1 - rank % 2, size - 1, 2 } }, far = -1;
+    if (size < 2) return;
+    MPI_Comm_group(MPI_COMM_WORLD, &all);
+    MPI_Group_range_incl(all, 1, range, &mine);
+    MPI_Group_range_incl(all, 1, other, &theirs);
+    MPI_Comm_create_from_group(mine, "halves", MPI_INFO_NULL, MPI_ERRORS_ARE_FATAL, &near);
+    HOLDS(sum_over(near) == (size + 1 - rank % 2) / 2);
+    MPI_Intercomm_create_from_groups(mine, 0, theirs, 0, "between", MPI_INFO_NULL, MPI_ERRORS_ARE_FATAL, &between);
+    MPI_Comm_remote_size(between, &far);
+    HOLDS(far == (size + rank % 2) / 2 && sum_over(between) == far);
+    MPI_Comm_create_from_group(MPI_GROUP_EMPTY, "none", MPI_INFO_NULL, MPI_ERRORS_ARE_FATAL, &none);
+    HOLDS(none == MPI_COMM_NULL);
+    MPI_Comm_free(&between);
+    MPI_Comm_free(&near);
+    MPI_Group_free(&mine);
+    MPI_Group_free(&theirs);
+    MPI_Group_free(&all);
+}
+
+/* What would start or find further processes is refused, by a sentence. */
+static void further(void) {
+    char port[MPI_MAX_PORT_NAME], text[MPI_MAX_ERROR_STRING];
+    int length;
+    MPI_Comm made = MPI_COMM_SELF;
+    MPI_Comm_set_errhandler(MPI_COMM_WORLD, MPI_ERRORS_RETURN);
+    MPI_Comm_set_errhandler(MPI_COMM_SELF, MPI_ERRORS_RETURN);
+    HOLDS(MPI_Comm_spawn("none", MPI_ARGV_NULL, 1, MPI_INFO_NULL, 0, MPI_COMM_WORLD, &made, MPI_ERRCODES_IGNORE) == MPI_ERR_SPAWN && made == MPI_COMM_NULL);
+    MPI_Error_string(MPI_ERR_SPAWN, text, &length);
+    HOLDS(strstr(text, "no further process can be started") != NULL);
+    HOLDS(MPI_Open_port(MPI_INFO_NULL, port) == MPI_ERR_PORT && MPI_Lookup_name("none", MPI_INFO_NULL, port) == MPI_ERR_NAME);
+}
+
+/* The tool information interface has nothing, and is opened and closed as often as a program likes. */
+static void tool_information(void) {
+    int level, many = -1, index;
+    MPI_T_pvar_session session;
+    HOLDS(MPI_T_cvar_get_num(&many) == MPI_T_ERR_NOT_INITIALIZED && many == -1);
+    HOLDS(MPI_T_init_thread(MPI_THREAD_SERIALIZED, &level) == MPI_SUCCESS && level == MPI_THREAD_SERIALIZED && MPI_T_init_thread(MPI_THREAD_SINGLE, &level) == MPI_SUCCESS);
+    HOLDS(MPI_T_cvar_get_num(&many) == MPI_SUCCESS && many == 0 && MPI_T_pvar_get_num(&many) == MPI_SUCCESS && many == 0 && MPI_T_category_get_num(&many) == MPI_SUCCESS && many == 0);
+    HOLDS(MPI_T_cvar_get_index("none", &index) == MPI_T_ERR_INVALID_NAME && MPI_T_category_get_categories(0, 0, &index) == MPI_T_ERR_INVALID_INDEX);
+    HOLDS(MPI_T_pvar_session_create(&session) == MPI_SUCCESS && MPI_T_pvar_start(session, MPI_T_PVAR_ALL_HANDLES) == MPI_SUCCESS && MPI_T_pvar_session_free(&session) == MPI_SUCCESS);
+    HOLDS(session == MPI_T_PVAR_SESSION_NULL && MPI_T_pvar_session_free(&session) == MPI_T_ERR_INVALID_SESSION);
+    HOLDS(MPI_T_finalize() == MPI_SUCCESS && MPI_T_finalize() == MPI_SUCCESS && MPI_T_finalize() == MPI_T_ERR_NOT_INITIALIZED);
+}
+
 #define CASE(name) { #name, name }
 static const struct {
     const char *name;
     void (*run)(void);
-} cases[] = { CASE(contents), CASE(darray), CASE(attributes), CASE(external), CASE(generalized), CASE(removed), CASE(fortran) };
+} cases[] = { CASE(contents), CASE(darray), CASE(attributes), CASE(external), CASE(generalized), CASE(removed), CASE(fortran), CASE(session_alone), CASE(session_longer),
+              CASE(session_errors), CASE(group_comms), CASE(further), CASE(tool_information) };
 
 int main(int argc, char **argv) {
-    MPI_Init(&argc, &argv);
-    MPI_Comm_rank(MPI_COMM_WORLD, &rank);
-    MPI_Comm_size(MPI_COMM_WORLD, &size);
+    bool by_session = argc > 1 && strncmp(argv[1], "session_", 8) == 0;
+    if (!by_session) {
+        MPI_Init(&argc, &argv);
+        MPI_Comm_rank(MPI_COMM_WORLD, &rank);
+        MPI_Comm_size(MPI_COMM_WORLD, &size);
+    }
     for (size_t i = 0; i < sizeof cases / sizeof cases[0]; i++)
         if (argc > 1 && strcmp(argv[1], cases[i].name) == 0) cases[i].run();
-    MPI_Finalize();
+    if (!by_session) MPI_Finalize();
     return 0;
 }

@@ -13,6 +13,8 @@ program newest
   case ('statuses'); call statuses
   case ('operations'); call operations
   case ('handlers'); call handlers
+  case ('sessions'); call sessions
+  case ('further'); call further
   end select
   call MPI_Finalize()
 contains
@@ -94,6 +96,43 @@ contains
     call MPI_Allreduce(MPI_IN_PLACE, i, 1, MPI_INTEGER, MPI_MAX, MPI_COMM_WORLD)
     call holds(i == size - 1, 21)
     call MPI_Op_free(op)
+  end subroutine
+
+  subroutine sessions
+    type(MPI_Session) :: session
+    type(MPI_Group) :: group
+    type(MPI_Comm) :: all
+    type(MPI_Info) :: about
+    character(len=MPI_MAX_PSET_NAME_LEN) :: set
+    character(len=20) :: many
+    integer :: sets, length, got
+    logical :: found
+    call MPI_Session_init(MPI_INFO_NULL, MPI_ERRORS_ARE_FATAL, session)
+    call MPI_Session_get_num_psets(session, MPI_INFO_NULL, sets)
+    length = len(set)
+    call MPI_Session_get_nth_pset(session, MPI_INFO_NULL, 0, length, set)
+    call holds(sets == 2 .and. set == 'mpi://WORLD', 30)
+    call MPI_Session_get_pset_info(session, set, about)
+    call MPI_Info_get(about, 'mpi_size', 20, many, found)
+    call MPI_Info_free(about)
+    read (many, *) got
+    call holds(found .and. got == size, 31)
+    call MPI_Group_from_session_pset(session, set, group)
+    call MPI_Comm_create_from_group(group, 'newest.f90', MPI_INFO_NULL, MPI_ERRORS_ARE_FATAL, all)
+    call MPI_Group_free(group)
+    call MPI_Allreduce(1, got, 1, MPI_INTEGER, MPI_SUM, all)
+    call holds(got == size, 32)
+    call MPI_Comm_free(all)
+    call MPI_Session_finalize(session)
+    call holds(session == MPI_SESSION_NULL, 33)
+  end subroutine
+
+  subroutine further
+    type(MPI_Comm) :: made
+    integer :: codes(2), code
+    call MPI_Comm_set_errhandler(MPI_COMM_SELF, MPI_ERRORS_RETURN)
+    call MPI_Comm_spawn('worker', MPI_ARGV_NULL, 2, MPI_INFO_NULL, 0, MPI_COMM_SELF, made, codes, code)
+    call holds(code == MPI_ERR_SPAWN .and. made == MPI_COMM_NULL, 40)
   end subroutine
 end program
 
