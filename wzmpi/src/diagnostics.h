@@ -24,6 +24,8 @@ int refuse_by(const struct refusal *refusal, const char *format, va_list rest);
 void print_warning(const char *format, ...) __attribute__((format(printf, 1, 2)));
 const char *class_name(int class);
 
+int judge_info(MPI_Info info, const char *call); /* info.c: MPI_INFO_NULL is one too */
+
 /* `wzrun` and `wzrun: warning`, as they begin a sentence (colour.c). */
 const char *fault_head(void);
 const char *warning_head(void);

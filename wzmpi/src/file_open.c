@@ -197,6 +197,7 @@ int MPI_File_open(MPI_Comm handle, const char *name, int mode, MPI_Info info, MP
     if (comm == NULL) return comm_error(handle, call);
     if (comm->first > 0) return refuse(comm, MPI_ERR_COMM, call, "a file isn't for an intercommunicator");
     int code = judge_mode(mode, call);
+    if (code == MPI_SUCCESS) code = judge_info(info, call);
     if (code != MPI_SUCCESS) return code;
     size_t length = sizeof mode + strlen(name) + 1;
     char *said = must(malloc(length));

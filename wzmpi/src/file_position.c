@@ -222,7 +222,8 @@ int MPI_File_set_info(MPI_File handle, MPI_Info info) {
     int code, many = 0;
     struct file *file = find_file(handle, "MPI_File_set_info", &code);
     if (file == NULL) return code;
-    code = info != MPI_INFO_NULL ? MPI_Info_get_nkeys(info, &many) : MPI_SUCCESS;
+    code = judge_info(info, "MPI_File_set_info");
+    if (code == MPI_SUCCESS && info != MPI_INFO_NULL) code = MPI_Info_get_nkeys(info, &many);
     for (int i = 0; i < many && code == MPI_SUCCESS; i++) {
         char key[MPI_MAX_INFO_KEY + 1], value[MPI_MAX_INFO_VAL + 1] = "";
         int flag;

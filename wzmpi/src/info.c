@@ -18,6 +18,12 @@ static struct info *known(MPI_Info handle, const char *call, int *code) {
     return info;
 }
 
+int judge_info(MPI_Info handle, const char *call) {
+    int code = MPI_SUCCESS;
+    if (handle != MPI_INFO_NULL) known(handle, call, &code);
+    return code;
+}
+
 static struct entry **find(struct info *info, const char *key) {
     struct entry **at = &info->first;
     while (*at != NULL && strcmp((*at)->key, key) != 0) at = &(*at)->next;

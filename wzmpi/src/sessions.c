@@ -50,6 +50,7 @@ int MPI_Session_init(MPI_Info info, MPI_Errhandler wanted, MPI_Session *made) {
     struct rank *me = this_rank(call);
     struct errhandler *handler = errhandler_of(wanted);
     if (handler == NULL) return refuse(NULL, MPI_ERR_ARG, call, "there is no such error handler");
+    if (judge_info(info, call) != MPI_SUCCESS) return MPI_ERR_INFO;
     struct session *session = must(malloc(sizeof *session));
     *session = (struct session){ handler, level_of(info) };
     hold_errhandler(handler);

@@ -108,7 +108,8 @@ static int make_window(struct comm *comm, const struct exposure *mine, int flavo
     struct request *done;
     int ranks[MOST_RANKS];
     struct arguments arguments = { .function = EXCHANGE, .form = BLOCKING, .give = mine, .give_count = sizeof *mine, .give_type = MPI_BYTE, .name = call };
-    int code = post_and_wait(comm, &arguments, &done);
+    int code = judge_info(info, call);
+    if (code == MPI_SUCCESS) code = post_and_wait(comm, &arguments, &done);
     if (code != MPI_SUCCESS) return code;
     for (int i = 0; i < comm->size; i++) ranks[i] = comm->members[i].rank;
     MPI_Comm handle = join_comm(comm, done->place << 32, call, ranks, comm->size, 0);

@@ -117,6 +117,7 @@ enum { HINTS = sizeof hints / sizeof hints[0] };
 int MPI_Win_set_info(MPI_Win handle, MPI_Info info) {
     int code;
     struct window *window = find_window(handle, "MPI_Win_set_info", &code);
+    if (window != NULL) code = judge_info(info, "MPI_Win_set_info");
     if (window == NULL) return code;
     for (int i = 0; i < HINTS && code == MPI_SUCCESS && info != MPI_INFO_NULL; i++) {
         char value[MPI_MAX_INFO_VAL + 1];

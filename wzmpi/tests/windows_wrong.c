@@ -304,6 +304,7 @@ static void cancelled(void) {
 }
 static void no_unit(void) { MPI_Win_create(memory, sizeof memory, rank == 1 ? 0 : 4, MPI_INFO_NULL, MPI_COMM_WORLD, &window); }
 static void no_base(void) { MPI_Win_create(rank == 1 ? NULL : memory, sizeof memory, 4, MPI_INFO_NULL, MPI_COMM_WORLD, &window); }
+static void no_info(void) { MPI_Win_create(memory, sizeof memory, 4, rank == 1 ? (MPI_Info)NULL : MPI_INFO_NULL, MPI_COMM_WORLD, &window); }
 
 #define CASE(name) { #name, name }
 static const struct {
@@ -316,7 +317,7 @@ static const struct {
     CASE(get_store), CASE(put_into_origin), CASE(lock_between_fences),
     CASE(changed_origin), CASE(changed_result), CASE(lacking_fence), CASE(fence_and_free), CASE(create_and_barrier), CASE(two_locks), CASE(no_lock), CASE(no_lock_to_flush),
     CASE(lock_in_fence), CASE(fence_in_lock), CASE(held_for_ever), CASE(no_start), CASE(no_post), CASE(two_posts), CASE(lacking_post), CASE(lacking_complete),
-    CASE(freed_while_locked), CASE(freed_while_used), CASE(freed), CASE(cancelled), CASE(no_unit), CASE(no_base),
+    CASE(freed_while_locked), CASE(freed_while_used), CASE(freed), CASE(cancelled), CASE(no_unit), CASE(no_base), CASE(no_info),
 };
 
 int main(int argc, char **argv) {
