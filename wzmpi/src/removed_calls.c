@@ -48,7 +48,13 @@ static int without_marks(int many, const int lengths[], const MPI_Aint places[],
     return code;
 }
 
-int MPI_Type_struct(int many, int lengths[], MPI_Aint places[], MPI_Datatype types[], MPI_Datatype *made) {
+bool has_marks(int many, const MPI_Datatype types[]) {
+    bool any = false;
+    for (int i = 0; i < many; i++) any = any || types[i] == MPI_LB || types[i] == MPI_UB;
+    return any;
+}
+
+int struct_with_marks(int many, const int lengths[], const MPI_Aint places[], const MPI_Datatype types[], MPI_Datatype *made) {
     struct marks marks = { false, false, 0, 0 };
     MPI_Datatype plain;
     MPI_Aint low, extent;
@@ -61,6 +67,8 @@ int MPI_Type_struct(int many, int lengths[], MPI_Aint places[], MPI_Datatype typ
     MPI_Type_free(&plain);
     return code;
 }
+
+int MPI_Type_struct(int many, int lengths[], MPI_Aint places[], MPI_Datatype types[], MPI_Datatype *made) { return struct_with_marks(many, lengths, places, types, made); }
 
 int MPI_Errhandler_create(MPI_Handler_function *function, MPI_Errhandler *made) { return MPI_Comm_create_errhandler(function, made); }
 

@@ -141,6 +141,7 @@ int MPI_Type_create_hindexed_block(int many, int length, const MPI_Aint places[]
 int MPI_Type_create_struct(int many, const int lengths[], const MPI_Aint places[], const MPI_Datatype of[], MPI_Datatype *made) {
     int code;
     if (many < 0) return count_error(many, "MPI_Type_create_struct");
+    if (has_marks(many, of)) return struct_with_marks(many, lengths, places, of, made);
     for (int i = 0; i < many; i++) {
         if (known(of[i], "MPI_Type_create_struct", &code) == NULL) return code;
         if (lengths[i] < 0) return refuse(NULL, MPI_ERR_ARG, "MPI_Type_create_struct", "the block length %d is negative", lengths[i]);

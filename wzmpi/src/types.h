@@ -110,6 +110,10 @@ void free_contents(struct contents *contents);
 int copy_type_attributes(struct type *from, MPI_Datatype handle, struct type *to);
 int delete_type_attributes(struct type *type, MPI_Datatype handle);
 
+/* ---- removed_calls.c: structures with MPI_LB or MPI_UB, which programs also give to MPI_Type_create_struct */
+bool has_marks(int many, const MPI_Datatype types[]);
+int struct_with_marks(int many, const int lengths[], const MPI_Aint places[], const MPI_Datatype types[], MPI_Datatype *made);
+
 /* ---- making types (type_make.c) */
 struct building {
     struct run_of *runs;

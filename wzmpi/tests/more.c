@@ -161,6 +161,10 @@ static void removed(void) {
     places[1] -= places[0];
     places[0] = 0;
     places[2] = 40;
+    MPI_Type_create_struct(3, lengths, places, of, &made);
+    MPI_Type_extent(made, &extent);
+    HOLDS(extent == 40);
+    MPI_Type_free(&made);
     MPI_Type_struct(3, lengths, places, of, &made);
     MPI_Type_commit(&made);
     MPI_Type_extent(made, &extent);
