@@ -3,6 +3,8 @@
 #include "diagnostics.h"
 #include "warnings.h"
 
+#include <strings.h>
+
 struct session {
     struct errhandler *handler;
     int level;
@@ -95,10 +97,10 @@ int MPI_Session_get_nth_pset(MPI_Session handle, MPI_Info info, int n, int *leng
     return code;
 }
 
-/* The number of a process set; -1: there is no such one. */
+/* The number of a process set, whose name is a URI, which programs also write in small letters; -1: there is no such one. */
 static int number_of(const char *name) {
     for (int i = 0; i < SETS; i++)
-        if (strcmp(name, sets[i]) == 0) return i;
+        if (strcasecmp(name, sets[i]) == 0) return i;
     return -1;
 }
 

@@ -226,7 +226,7 @@ static void session_alone(void) {
         MPI_Session_get_pset_info(session, set, &info);
         MPI_Info_get(info, "mpi_size", 19, text, &flag);
         MPI_Info_free(&info);
-        MPI_Comm world = comm_of(session, set), self = comm_of(session, "mpi://SELF");
+        MPI_Comm world = comm_of(session, set), self = comm_of(session, "mpi://self");
         MPI_Comm_size(world, &size);
         HOLDS(flag && atoi(text) == size && sum_over(world) == size && sum_over(self) == 1);
         MPI_Initialized(&flag);
