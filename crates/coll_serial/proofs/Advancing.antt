@@ -5,7 +5,7 @@ use Rattle.coll_machine.specs.Common.{Setting, Machine}
 use Rattle.coll_core.specs.declared.stepped.Stepped.{Stepped}
 use Rattle.coll_core.specs.declared.stepped.Stepped.TheVariants.{Quiet, Moved, Finished, Out}
 use Rattle.coll_core.specs.Cores.{Parts, seen, setting}
-use Rattle.coll_core.specs.Steps.{Acts, CommitSteps, CommitsOwn, Finishings, none, more, Goes, Steps, StepsBy, Stays, left}
+use Rattle.coll_core.specs.Steps.{Acts, CommitSteps, CommitsOwn, Finishings, none, more, Goes, Steps, StepsBy, Stays, left, running}
 use Rattle.coll_core.specs.Works.{Made, Piece, result_of}
 use Rattle.coll_serial.specs.Progress.{Advances}
 
@@ -83,6 +83,17 @@ moved p v r same s is h = subst (λ (k : Parts). Advances k r 1) same (moved_in 
 
 pub finished : (p v r : Parts) → p ≡ v → (s : Stepped) → s ≡ Finished → Steps p r s → Advances v r 1
 finished p v r same s is h = subst (λ (k : Parts). Advances k r 1) same (finished_in p r s is h)
+
+-- the combinations that are outside stay so
+pub outside_moved : (p r : Parts) (s : Stepped) → s ≡ Moved → Steps p r s → running r ≡ running p
+outside_moved p r s is h =
+    let acts : Acts p r false = subst (λ (s : Stepped). Steps p r s) is h in
+    acts.running_is
+
+pub outside_finished : (p r : Parts) (s : Stepped) → s ≡ Finished → Steps p r s → running r ≡ running p
+outside_finished p r s is h =
+    let acts : Acts p r true = subst (λ (s : Stepped). Steps p r s) is h in
+    acts.running_is
 
 -- where one acted
 pub acted : (p r : Parts) (b : Bool) → b ≡ true → Advances p r (if b then 1 else 0) → Advances p r 1

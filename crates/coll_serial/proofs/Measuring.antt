@@ -12,7 +12,10 @@ use Rattle.coll_kinds.specs.declared.ticket.Ticket.{Ticket}
 use Rattle.coll_kinds.specs.Common.{member_of, got_len, put}
 use Rattle.coll_kinds.proofs.Puts.{put_same, put_other}
 use Rattle.coll_plans.specs.Plans.{family}
-use Rattle.coll_machine.specs.Common.{Setting, group, size, Machine, State, Request, signature_of, key_of, Call, Planned, Post, Init, Reply, Ticketed, Outcome, Nothing, Refused, new_request, created, started, once_more, rested, rested_by, holding, MachineStep, post, init, start, finish, retire, wait, free, refuse, short, MayFinish, StepsTo, refusal, refusals, Posts, Inits, Starts, Frees, Retires, Clears}
+use Rattle.coll_machine.specs.Common.{Setting, group, size, Machine, State, Request, signature_of, key_of, Call, Planned, Post, Init, Reply, Ticketed}
+use Rattle.coll_machine.specs.Common.{Outcome, Nothing, Refused, new_request, created, started, once_more, rested, rested_by, holding, MachineStep}
+use Rattle.coll_machine.specs.Common.{post, init, start, finish, retire, wait, free, refuse, short, MayFinish, StepsTo, refusal, refusals, Posts}
+use Rattle.coll_machine.specs.Common.{Inits, Starts, Frees, Retires, Clears}
 use Rattle.coll_machine.proofs.Puts.{put2_same}
 use Rattle.coll_machine.proofs.Pushed.{get_pushed}
 use Rattle.coll_machine.proofs.Posted.{still_there}
@@ -53,12 +56,14 @@ for_member g comm rank member plan is e =
     let h = and_parts _ _ e in
     record { size_is = eqb-true _ _ h.0; member_is = eqb-true _ _ h.1 ∙ ap (λ (o : Option ℕ). unwrap_or o 0) is }
 
-post_is_for : (g : Setting) (s : State) (rank comm member : ℕ) (plan : Planned) (bytes : List ℕ) → refusal g s (Post rank comm plan bytes) ≡ None → member_of rank (group g comm) ≡ Some member → IsFor g comm member plan
+post_is_for : (g : Setting) (s : State) (rank comm member : ℕ) (plan : Planned) (bytes : List ℕ)
+    → refusal g s (Post rank comm plan bytes) ≡ None → member_of rank (group g comm) ≡ Some member → IsFor g comm member plan
 post_is_for g s rank comm member plan bytes e is =
     let h = all_none (refusals g s (Post rank comm plan bytes)) e in
     for_member g comm rank member plan is (fits _ (BadSignature WrongGroup) h.1.1.1.1.0)
 
-init_is_for : (g : Setting) (s : State) (rank comm member : ℕ) (plan : Planned) → refusal g s (Init rank comm plan) ≡ None → member_of rank (group g comm) ≡ Some member → IsFor g comm member plan
+init_is_for : (g : Setting) (s : State) (rank comm member : ℕ) (plan : Planned) → refusal g s (Init rank comm plan) ≡ None
+    → member_of rank (group g comm) ≡ Some member → IsFor g comm member plan
 init_is_for g s rank comm member plan e is =
     let h = all_none (refusals g s (Init rank comm plan)) e in
     for_member g comm rank member plan is (fits _ (BadSignature WrongGroup) h.1.1.1.1.0)
@@ -107,7 +112,8 @@ measured_posts g s u rank t comm place plan bytes xs len p l a =
     }
 
     own : (x : Request) → after.request t.slot ≡ Some x → IsMeasured g after ys t.slot x
-    own x e = subst (IsMeasured g after ys t.slot) (same_Some (once_more q) x (sym (put_same (put s.request t.slot (Some q)) t.slot (Some (once_more q))) ∙ e)) new
+    own x e = subst (IsMeasured g after ys t.slot)
+        (same_Some (once_more q) x (sym (put_same (put s.request t.slot (Some q)) t.slot (Some (once_more q))) ∙ e)) new
 
 measured_inits : (g : Setting) (s u : State) (rank : ℕ) (t : Ticket) (comm place : ℕ) (plan : Planned) (xs : List ℕ) (len : ℕ)
     → Inits g s rank t comm place plan u → IsLength plan len → AreMeasured g s xs → AreMeasured g u (slice_set xs t.slot len)
@@ -194,7 +200,8 @@ measured_retires g s u rank t comm place begin bytes xs p a = go p.leaves
         new = record { sig = was.sig; sig_is = same_posts s w posts q.comm q.member q.place was.sig was.sig_is; is = was.is; output_is = was.output_is }
 
         own : (x : Request) → w.request t.slot ≡ Some x → IsMeasured g w xs t.slot x
-        own x e = subst (IsMeasured g w xs t.slot) (rested_idle q x q.mode (sym (ap (λ (f : ℕ → Option Request). f t.slot) request ∙ put_same s.request t.slot (rested q)) ∙ e)) new
+        own x e = subst (IsMeasured g w xs t.slot)
+            (rested_idle q x q.mode (sym (ap (λ (f : ℕ → Option Request). f t.slot) request ∙ put_same s.request t.slot (rested q)) ∙ e)) new
 
     go : Clears g middle (key_of q begin) u → AreMeasured g u xs
     go (inl h) = of u (ap (λ (w : State). w.request) h.1) (ap (λ (w : State). w.posts) h.1)
@@ -203,7 +210,8 @@ measured_retires g s u rank t comm place begin bytes xs p a = go p.leaves
 measured_frees : (g : Setting) (s u : State) (rank : ℕ) (t : Ticket) (xs : List ℕ) → Frees g s rank t u → AreMeasured g s xs → AreMeasured g u xs
 measured_frees g s u rank t xs p a =
     subst (λ (w : State). AreMeasured g w xs) (sym p.leaves)
-    (measured_put g s (holding s t.slot None) xs xs t.slot a (same_posts s (holding s t.slot None) refl) refl (λ i d. put_other s.request t.slot None i d) (λ i d. refl) own)
+    (measured_put g s (holding s t.slot None) xs xs t.slot a (same_posts s (holding s t.slot None) refl) refl
+    (λ i d. put_other s.request t.slot None i d) (λ i d. refl) own)
   where
     own : (x : Request) → (holding s t.slot None).request t.slot ≡ Some x → IsMeasured g (holding s t.slot None) xs t.slot x
     own x e = absurd (none-some x (sym (put_same s.request t.slot None) ∙ e))
@@ -230,7 +238,8 @@ measured_step g _ _ _ _ xs makes (refuse {m} call why h) a = a
 measured_step g _ _ _ _ xs makes (short {m} call takes h) a = a
 
 measured_post : (g : Setting) (m n : Machine) (rank comm : ℕ) (plan : Planned) (bytes : List ℕ) (t : Ticket) (xs : List ℕ) (len : ℕ)
-    → MachineStep g m (Post rank comm plan bytes) (Ticketed t) n → IsLength plan len → AreMeasured g m.state xs → AreMeasured g n.state (slice_set xs t.slot len)
+    → MachineStep g m (Post rank comm plan bytes) (Ticketed t) n → IsLength plan len → AreMeasured g m.state xs
+    → AreMeasured g n.state (slice_set xs t.slot len)
 measured_post g _ _ rank comm plan bytes t xs len (post {s} {u} {done} _ _ place _ _ _ h) l a = measured_posts g s u rank t comm place plan bytes xs len h l a
 
 pub measured_init : (g : Setting) (m n : Machine) (rank comm : ℕ) (plan : Planned) (t : Ticket) (xs : List ℕ) (len : ℕ)
@@ -246,7 +255,8 @@ pub measured_posted : (g : Setting) (m n : Machine) (rank comm : ℕ) (plan : Pl
 measured_posted g m n rank comm plan bytes t xs len (mid, step, may) l a =
     measured_may g mid n (slice_set xs t.slot len) may (measured_post g m mid rank comm plan bytes t xs len step l a)
 
-pub measured_started : (g : Setting) (m n : Machine) (call : Call) (xs : List ℕ) → StepsTo g m call Nothing n → AreMeasured g m.state xs → AreMeasured g n.state xs
+pub measured_started : (g : Setting) (m n : Machine) (call : Call) (xs : List ℕ) → StepsTo g m call Nothing n
+    → AreMeasured g m.state xs → AreMeasured g n.state xs
 measured_started g m n call xs (mid, step, may) a = measured_may g mid n xs may (measured_step g m mid call Nothing xs tt step a)
 
 pub measured_finishings : (g : Setting) (m n : Machine) (xs : List ℕ) → Finishings g m n → AreMeasured g m.state xs → AreMeasured g n.state xs
@@ -254,7 +264,8 @@ measured_finishings g m _ xs none a = a
 measured_finishings g m _ xs (more {mid} {n} before step) a = measured_step g mid n _ _ xs tt step (measured_finishings g m mid xs before a)
 
 -- the slot of a request that a call makes is one of the engine's
-posted_low : (g : Setting) (m n : Machine) (rank comm : ℕ) (plan : Planned) (bytes : List ℕ) (t : Ticket) → MachineStep g m (Post rank comm plan bytes) (Ticketed t) n → t.slot < g.slots
+posted_low : (g : Setting) (m n : Machine) (rank comm : ℕ) (plan : Planned) (bytes : List ℕ) (t : Ticket)
+    → MachineStep g m (Post rank comm plan bytes) (Ticketed t) n → t.slot < g.slots
 posted_low g _ _ rank comm plan bytes t (post _ _ place _ _ _ h) = h.new.low
 
 pub post_low : (g : Setting) (m n : Machine) (rank comm : ℕ) (plan : Planned) (bytes : List ℕ) (t : Ticket) (xs : List ℕ)

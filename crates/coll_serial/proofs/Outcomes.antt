@@ -22,7 +22,10 @@ use Rattle.coll_core.specs.Cores.{Parts, seen, setting, tables}
 use Rattle.coll_core.specs.Phases.{phase_in, phase_of}
 use Rattle.coll_complete.specs.Completing.{completion, completion_if}
 use Rattle.coll_complete.specs.Requests.{done_by, is_done}
-use Rattle.coll_serial.specs.Calls.{Completes, DeniesTest, Fills, IsShort}
+use Rattle.coll_serial.specs.Calls.{Completes, DeniesTest, Fills, IsShort, Takes}
+use Rattle.coll_serial.specs.Tests.{IfTaken}
+use Rattle.coll_serial.specs.declared.taken.Taken.{Taken}
+use Rattle.coll_serial.specs.declared.taken.Taken.TheVariants.{Completed}
 use Rattle.coll_serial.specs.Lengths.{AreMeasured, HasRoom, IsOutcomeLength, IsOutcomeLengthAt, RoomFor}
 use Rattle.coll_kinds.specs.declared.refusal.Refusal.TheVariants.{BadLength}
 
@@ -52,9 +55,11 @@ fits_in v rank t comm place start bytes u room lock p done has =
     let size_is : comm ≡ q.comm = sym p.comm_is ∙ comm_is in
     let held = lock.held t.slot q w.1 done in
     let bytes_are : bytes ≡ value q.sig (filled q.sig (size v.setting q.comm) (v.given (key q))) q.member =
-    p.bytes_is ∙ (λ z. value (sig z) (filled (sig z) (size v.setting (size_is z)) (v.given (record { comm = comm_is z; place = place_is z; start = start_is z }))) (member_is z)) in
+    p.bytes_is ∙ (λ z. value (sig z)
+    (filled (sig z) (size v.setting (size_is z)) (v.given (record { comm = comm_is z; place = place_is z; start = start_is z }))) (member_is z)) in
     let read : bytes ≡ read_of q.buf (family q.sig (size v.setting q.comm) q.member).output = bytes_are ∙ sym held.value_is in
-    let len : length bytes ≤ (family q.sig (size v.setting q.comm) q.member).output.len = rw read (length-read q.buf (family q.sig (size v.setting q.comm) q.member).output) in
+    let len : length bytes ≤ (family q.sig (size v.setting q.comm) q.member).output.len =
+    rw read (length-read q.buf (family q.sig (size v.setting q.comm) q.member).output) in
     let tested : (family p.sig (size v.setting r.comm) r.member).output.len ≤ room = has r p.sig p.is p.ready.sig_is in
     let output : (family p.sig (size v.setting r.comm) r.member).output.len ≡ (family q.sig (size v.setting q.comm) q.member).output.len =
     (λ z. (family (sig z) (size v.setting (comm_is z)) (member_is z)).output.len) in
@@ -90,12 +95,14 @@ named m t phase e = go (found m.state t) refl
     go None is = absurd (none-some phase (sym (ap (phase_of m t) is) ∙ e))
     go (Some q) is = record { request = q; is = is }
 
-pub named_low : (g : Setting) (m : Machine) (t : Ticket) (phase : Phase) (lengths : List ℕ) → AreMeasured g m.state lengths → phase_in m t ≡ Some phase → t.slot < length lengths
+pub named_low : (g : Setting) (m : Machine) (t : Ticket) (phase : Phase) (lengths : List ℕ) → AreMeasured g m.state lengths
+    → phase_in m t ≡ Some phase → t.slot < length lengths
 named_low g m t phase lengths a e =
     let w = named m t phase e in
     slice_get_within lengths t.slot _ (a.each t.slot w.request (found_is m.state t w.request w.is).1).is
 
-pub has_room : (g : Setting) (m : Machine) (t : Ticket) (lengths : List ℕ) (want room : ℕ) → AreMeasured g m.state lengths → slice_get lengths t.slot ≡ Some want → want ≤ room
+pub has_room : (g : Setting) (m : Machine) (t : Ticket) (lengths : List ℕ) (want room : ℕ) → AreMeasured g m.state lengths
+    → slice_get lengths t.slot ≡ Some want → want ≤ room
     → RoomFor g m (Some t) room
 has_room g m t lengths want room a is le done q sig found_q sig_q =
     let k = a.each t.slot q (found_is m.state t q found_q).1 in
@@ -105,51 +112,79 @@ has_room g m t lengths want room a is le done q sig found_q sig_q =
     (λ z. (family (sym same z) (size g q.comm) q.member).output.len) ∙ k.output_is in
     omega (arith, w, o, le)
 
-pub outcome_length : (g : Setting) (m : Machine) (t : Ticket) (phase : Phase) (lengths : List ℕ) (len : ℕ) → AreMeasured g m.state lengths → phase_in m t ≡ Some phase
+pub outcome_length : (g : Setting) (m : Machine) (t : Ticket) (phase : Phase) (lengths : List ℕ) (len : ℕ)
+    → AreMeasured g m.state lengths → phase_in m t ≡ Some phase
     → slice_get lengths t.slot ≡ Some len → IsOutcomeLength g m.state t len
 outcome_length g m t phase lengths len a e is =
     let w = named m t phase e in
     let k = a.each t.slot w.request (found_is m.state t w.request w.is).1 in
     record { request = w.request; sig = k.sig; found_is = w.is; sig_is = k.sig_is; is = same_Some len _ (sym is ∙ k.is) }
 
-pub is_short : (g : Setting) (m : Machine) (t : Ticket) (lengths : List ℕ) (want room : ℕ) → AreMeasured g m.state lengths → slice_get lengths t.slot ≡ Some want → phase_in m t ≡ Some Done
+pub is_short : (g : Setting) (m : Machine) (t : Ticket) (lengths : List ℕ) (want room : ℕ) → AreMeasured g m.state lengths
+    → slice_get lengths t.slot ≡ Some want → phase_in m t ≡ Some Done
     → room < want → IsShort g m t room (BadLength want room)
 is_short g m t lengths want room a is phase lt =
     record { want = want; want_is = outcome_length g m t Done lengths want a phase is; done = ap done_by phase; is = refl; less = lt }
 
 -- where the request isn't Done, no room is wanted
-pub no_room : (g : Setting) (m : Machine) (t : Ticket) (phase : Phase) (room : ℕ) → phase_in m t ≡ Some phase → done_by (Some phase) ≡ false → RoomFor g m (Some t) room
+pub no_room : (g : Setting) (m : Machine) (t : Ticket) (phase : Phase) (room : ℕ) → phase_in m t ≡ Some phase
+    → done_by (Some phase) ≡ false → RoomFor g m (Some t) room
 no_room g m t phase room e not done = absurd (false≢true (sym not ∙ (sym (ap done_by e) ∙ done)))
 
 -- in an engine's words: of what it shows, and of the caller's request
-pub denies_short : (p v : Parts) → p ≡ v → (rank : ℕ) (r : Option Ticket) (t : Ticket) → r ≡ Some t → (lengths : List ℕ) (want room : ℕ) → AreMeasured (setting p) (seen p).state lengths → slice_get lengths t.slot ≡ Some want
+pub denies_short : (p v : Parts) → p ≡ v → (rank : ℕ) (r : Option Ticket) (t : Ticket) → r ≡ Some t
+    → (lengths : List ℕ) (want room : ℕ) → AreMeasured (setting p) (seen p).state lengths → slice_get lengths t.slot ≡ Some want
     → phase_in (seen p) t ≡ Some Done → room < want → DeniesTest (setting v) (seen v) rank r room (BadLength want room)
 denies_short p v same rank r t is lengths want room a want_is phase lt =
-    let at : DeniesTest (setting p) (seen p) rank (Some t) room (BadLength want room) = inr (is_short (setting p) (seen p) t lengths want room a want_is phase lt) in
-    subst (λ (k : Parts). DeniesTest (setting k) (seen k) rank r room (BadLength want room)) same (subst (λ (q : Option Ticket). DeniesTest (setting p) (seen p) rank q room (BadLength want room)) (sym is) at)
+    let at : DeniesTest (setting p) (seen p) rank (Some t) room (BadLength want room) =
+    inr (is_short (setting p) (seen p) t lengths want room a want_is phase lt) in
+    subst (λ (k : Parts). DeniesTest (setting k) (seen k) rank r room (BadLength want room)) same
+    (subst (λ (q : Option Ticket). DeniesTest (setting p) (seen p) rank q room (BadLength want room)) (sym is) at)
 
-pub room_for : (p v : Parts) → p ≡ v → (r : Option Ticket) (t : Ticket) → r ≡ Some t → (lengths : List ℕ) (want room : ℕ) → AreMeasured (setting p) (seen p).state lengths → slice_get lengths t.slot ≡ Some want → want ≤ room
+pub room_for : (p v : Parts) → p ≡ v → (r : Option Ticket) (t : Ticket) → r ≡ Some t → (lengths : List ℕ) (want room : ℕ)
+    → AreMeasured (setting p) (seen p).state lengths → slice_get lengths t.slot ≡ Some want → want ≤ room
     → RoomFor (setting v) (seen v) r room
 room_for p v same r t is lengths want room a want_is le =
-    subst (λ (k : Parts). RoomFor (setting k) (seen k) r room) same (subst (λ (q : Option Ticket). RoomFor (setting p) (seen p) q room) (sym is) (has_room (setting p) (seen p) t lengths want room a want_is le))
+    subst (λ (k : Parts). RoomFor (setting k) (seen k) r room) same
+    (subst (λ (q : Option Ticket). RoomFor (setting p) (seen p) q room) (sym is) (has_room (setting p) (seen p) t lengths want room a want_is le))
 
-pub length_for : (p v : Parts) → p ≡ v → (r : Option Ticket) (t : Ticket) → r ≡ Some t → (lengths : List ℕ) (phase : Phase) (len : ℕ) → AreMeasured (setting p) (seen p).state lengths → phase_in (seen p) t ≡ Some phase
+pub length_for : (p v : Parts) → p ≡ v → (r : Option Ticket) (t : Ticket) → r ≡ Some t
+    → (lengths : List ℕ) (phase : Phase) (len : ℕ) → AreMeasured (setting p) (seen p).state lengths → phase_in (seen p) t ≡ Some phase
     → slice_get lengths t.slot ≡ Some len → IsOutcomeLengthAt (setting v) (seen v).state r len
 length_for p v same r t is lengths phase len a e len_is =
-    subst (λ (k : Parts). IsOutcomeLengthAt (setting k) (seen k).state r len) same (subst (λ (q : Option Ticket). IsOutcomeLengthAt (setting p) (seen p).state q len) (sym is) (outcome_length (setting p) (seen p) t phase lengths len a e len_is))
+    subst (λ (k : Parts). IsOutcomeLengthAt (setting k) (seen k).state r len) same
+    (subst (λ (q : Option Ticket). IsOutcomeLengthAt (setting p) (seen p).state q len) (sym is)
+    (outcome_length (setting p) (seen p) t phase lengths len a e len_is))
 
 -- the outcome of a test
-pub tested_fits : (p v : Parts) → p ≡ v → (n : Machine) (rank : ℕ) (r : Option Ticket) (tested : Option Outcome) (o : Outcome) → tested ≡ Some o → (room : ℕ) → FreeLock (tables p) → is_some tested ≡ is_done (seen p) r
+pub tested_fits : (p v : Parts) → p ≡ v → (n : Machine) (rank : ℕ) (r : Option Ticket) (tested : Option Outcome) (o : Outcome)
+    → tested ≡ Some o → (room : ℕ) → FreeLock (tables p) → is_some tested ≡ is_done (seen p) r
     → Runs (setting p) (seen p) (completion_if rank r tested) n → RoomFor (setting v) (seen v) r room → length o.bytes ≤ room
 tested_fits p v same n rank r tested o is room lock some runs has =
-    outcome_fits p n rank r o room lock (sym some ∙ ap is_some is) (subst (λ (x : Option Outcome). Runs (setting p) (seen p) (completion_if rank r x) n) is runs) (subst (λ (k : Parts). RoomFor (setting k) (seen k) r room) (sym same) has)
+    outcome_fits p n rank r o room lock (sym some ∙ ap is_some is)
+    (subst (λ (x : Option Outcome). Runs (setting p) (seen p) (completion_if rank r x) n) is runs)
+    (subst (λ (k : Parts). RoomFor (setting k) (seen k) r room) (sym same) has)
 
-pub completed : (p v : Parts) → p ≡ v → (n : Machine) (rank : ℕ) (r : Option Ticket) (tested : Option Outcome) (o : Outcome) → tested ≡ Some o → Runs (setting p) (seen p) (completion_if rank r tested) n
-    → (count : ℕ) (old new laid : List ℕ) → count ≡ length o.bytes → length o.bytes ≤ length old → laid ≡ o.bytes → Fills old new laid → Completes (setting v) (seen v) rank r old count new n
-completed p v same n rank r tested o is runs count old new laid count_is room laid_is fills = record {
+pub taken : (p v : Parts) → p ≡ v → (n : Machine) (rank : ℕ) (r : Option Ticket) (tested : Option Outcome) (o : Outcome)
+    → tested ≡ Some o → Runs (setting p) (seen p) (completion_if rank r tested) n
+    → (room : ℕ) → length o.bytes ≤ room → Takes (setting v) (seen v) rank r room o n
+taken p v same n rank r tested o is runs room within = record {
+  runs = subst (λ (k : Parts). Runs (setting k) (seen k) (completion rank r o) n) same
+      (subst (λ (x : Option Outcome). Runs (setting p) (seen p) (completion_if rank r x) n) is runs);
+  within = within;
+}
+
+pub taken_at : (P : Outcome → Type 0) (found : Taken) (o : Outcome) → found ≡ Completed o → IfTaken P found → P o
+taken_at P found o is h = subst (IfTaken P) is h
+
+-- and copied
+pub completed : (g : Setting) (m n : Machine) (rank : ℕ) (r : Option Ticket) (o : Outcome) (room : ℕ) → Takes g m rank r room o n
+    → (count : ℕ) (old new laid : List ℕ) → room ≡ length old → count ≡ length o.bytes → laid ≡ o.bytes → Fills old new laid
+    → Completes g m rank r old count new n
+completed g m n rank r o room takes count old new laid room_is count_is laid_is fills = record {
   outcome = o;
-  runs = subst (λ (k : Parts). Runs (setting k) (seen k) (completion rank r o) n) same (subst (λ (x : Option Outcome). Runs (setting p) (seen p) (completion_if rank r x) n) is runs);
+  runs = takes.runs;
   count_is = count_is;
-  room = omega (arith, count_is, room);
+  room = omega (arith, count_is, room_is, takes.within);
   fills = subst (λ (xs : List ℕ). Fills old new xs) laid_is fills;
 }

@@ -1,5 +1,6 @@
 -- What no plan is made for, the machine refuses so.
-use Rattle.std.proofs.Common.{◌≡◌, ℕ, ◌⊎◌, inl, inr, List, [], ◌∷◌, ◌++◌, length, Option, Some, None, MatchOption, Result, Ok, Err, IfErr, IsErrOf, IsOkUnless, refl, sym, ap, subst, ◌∙◌}
+use Rattle.std.proofs.Common.{◌≡◌, ℕ, ◌⊎◌, inl, inr, List, [], ◌∷◌, ◌++◌, length, Option, Some, None, MatchOption, Result, Ok, Err, IfErr, IsErrOf}
+use Rattle.std.proofs.Common.{IsOkUnless, refl, sym, ap, subst, ◌∙◌}
 use Rattle.std.specs.Option.{option_or}
 use Rattle.std.specs.Prelude.{option_map, is_some, nat_lt}
 use Rattle.std.proofs.lemmas.Option.{none-some}
@@ -55,10 +56,12 @@ same_front : (groups : List (List ℕ)) (g : Setting) (rank comm : ℕ) → grou
 same_front groups g rank comm same seated = ap (λ (gs : List (List ℕ)). unseated gs rank comm) (sym same) ∙ sym seated
 
 -- a rank without a seat
-pub unseated_early : (groups : List (List ℕ)) (g : Setting) (rank comm : ℕ) (sig : Signature) (why : Refusal) → groups ≡ g.groups → Some why ≡ unseated groups rank comm → early_refusal g rank comm sig ≡ Some why
+pub unseated_early : (groups : List (List ℕ)) (g : Setting) (rank comm : ℕ) (sig : Signature) (why : Refusal) → groups ≡ g.groups
+    → Some why ≡ unseated groups rank comm → early_refusal g rank comm sig ≡ Some why
 unseated_early groups g rank comm sig why same seat =
     let front : unseated g.groups rank comm ≡ Some why = ap (λ (gs : List (List ℕ)). unseated gs rank comm) (sym same) ∙ sym seat in
-    first_front (unless (nat_lt comm (length g.groups)) (BadComm comm) ∷ unless (is_some (member_of rank (group g comm))) (NotMember rank) ∷ []) (option_map BadSignature (broken sig (size g comm)) ∷ []) why front
+    first_front (unless (nat_lt comm (length g.groups)) (BadComm comm) ∷ unless (is_some (member_of rank (group g comm))) (NotMember rank) ∷ [])
+    (option_map BadSignature (broken sig (size g comm)) ∷ []) why front
 
 abbrev why_of : {P : Type 0} → Refusal → Result P Refusal → Refusal
 why_of x (Ok p) = x
@@ -67,26 +70,40 @@ why_of x (Err w) = w
 err_same : {P : Type 0} (x y : Refusal) → IsErrOf {T = P} (Err x) y → x ≡ y
 err_same x y e = ap (why_of x) e
 
-pub plan_refused : {P : Type 0} (groups : List (List ℕ)) (g : Setting) (rank comm n : ℕ) (sig : Signature) (result : Result P Refusal) → groups ≡ g.groups → None ≡ unseated groups rank comm → n ≡ length (group_in groups comm)
+pub plan_refused : {P : Type 0} (groups : List (List ℕ)) (g : Setting) (rank comm n : ℕ) (sig : Signature) (result : Result P Refusal)
+    → groups ≡ g.groups → None ≡ unseated groups rank comm → n ≡ length (group_in groups comm)
     → MatchOption (broken sig n) (IsOkUnless result NoMemory) (λ cause. IsErrOf result (BadSignature cause))
     → IfErr result (λ why. (early_refusal g rank comm sig ≡ Some why) ⊎ (why ≡ NoMemory))
 plan_refused groups g rank comm n sig (Ok plan) same seat size_is answer = tt
-plan_refused {P} groups g rank comm n sig (Err why) same seat size_is answer = go (broken sig (size g comm)) refl (subst (λ k. MatchOption (broken sig k) (IsOkUnless {T = P} (Err why) NoMemory) (λ cause. IsErrOf {T = P} (Err why) (BadSignature cause))) sizes answer)
+plan_refused {P} groups g rank comm n sig (Err why) same seat size_is answer =
+    go (broken sig (size g comm)) refl
+    (subst (λ k. MatchOption (broken sig k) (IsOkUnless {T = P} (Err why) NoMemory) (λ cause. IsErrOf {T = P} (Err why) (BadSignature cause))) sizes answer)
   where
     sizes : n ≡ size g comm
     sizes = size_is ∙ ap (λ (gs : List (List ℕ)). length (group_in gs comm)) same
 
     early : early_refusal g rank comm sig ≡ option_or (option_map BadSignature (broken sig (size g comm))) None
-    early = first_two (unless (nat_lt comm (length g.groups)) (BadComm comm)) (unless (is_some (member_of rank (group g comm))) (NotMember rank)) (option_map BadSignature (broken sig (size g comm))) (same_front groups g rank comm same seat)
+    early = first_two (unless (nat_lt comm (length g.groups)) (BadComm comm))
+        (unless (is_some (member_of rank (group g comm))) (NotMember rank)) (option_map BadSignature (broken sig (size g comm)))
+        (same_front groups g rank comm same seat)
 
-    go : (o : Option SignatureFault) → broken sig (size g comm) ≡ o → MatchOption (broken sig (size g comm)) (IsOkUnless {T = P} (Err why) NoMemory) (λ cause. IsErrOf {T = P} (Err why) (BadSignature cause)) → (early_refusal g rank comm sig ≡ Some why) ⊎ (why ≡ NoMemory)
-    go None is h = inr (subst (λ (o : Option SignatureFault). MatchOption o (IsOkUnless {T = P} (Err why) NoMemory) (λ cause. IsErrOf {T = P} (Err why) (BadSignature cause))) is h)
+    go : (o : Option SignatureFault) → broken sig (size g comm) ≡ o
+        → MatchOption (broken sig (size g comm)) (IsOkUnless {T = P} (Err why) NoMemory) (λ cause. IsErrOf {T = P} (Err why) (BadSignature cause))
+        → (early_refusal g rank comm sig ≡ Some why) ⊎ (why ≡ NoMemory)
+    go None is h =
+        inr (subst (λ (o : Option SignatureFault). MatchOption o (IsOkUnless {T = P} (Err why) NoMemory)
+        (λ cause. IsErrOf {T = P} (Err why) (BadSignature cause))) is h)
     go (Some cause) is h =
-        let told = subst (λ (o : Option SignatureFault). MatchOption o (IsOkUnless {T = P} (Err why) NoMemory) (λ cause. IsErrOf {T = P} (Err why) (BadSignature cause))) is h in
-        inl (early ∙ (ap (λ (o : Option SignatureFault). option_or (option_map BadSignature o) None) is ∙ ap Some (sym (err_same why (BadSignature cause) told))))
+        let told = subst (λ (o : Option SignatureFault). MatchOption o (IsOkUnless {T = P} (Err why) NoMemory)
+        (λ cause. IsErrOf {T = P} (Err why) (BadSignature cause))) is h in
+        inl (early ∙ (ap (λ (o : Option SignatureFault). option_or (option_map BadSignature o) None) is
+        ∙ ap Some (sym (err_same why (BadSignature cause) told))))
 
 -- a start, in an engine's words
-pub start_denied : (p v : Parts) → p ≡ v → (rank : ℕ) (r : Option Ticket) (t : Ticket) → r ≡ Some t → (gave bytes : List ℕ) → gave ≡ bytes → (why : Refusal) → Refuses (setting p) (seen p) (Start rank t gave) why → DeniesStart (setting v) rank (seen v) (r, bytes) why
+pub start_denied : (p v : Parts) → p ≡ v → (rank : ℕ) (r : Option Ticket) (t : Ticket) → r ≡ Some t → (gave bytes : List ℕ)
+    → gave ≡ bytes → (why : Refusal) → Refuses (setting p) (seen p) (Start rank t gave) why → DeniesStart (setting v) rank (seen v) (r, bytes) why
 start_denied p v same rank r t is gave bytes copied why refused =
-    let at : DeniesStart (setting p) rank (seen p) (Some t, bytes) why = inl (subst (λ (xs : List ℕ). Refuses (setting p) (seen p) (Start rank t xs) why) copied refused) in
-    subst (λ (k : Parts). DeniesStart (setting k) rank (seen k) (r, bytes) why) same (subst (λ (q : Option Ticket). DeniesStart (setting p) rank (seen p) (q, bytes) why) (sym is) at)
+    let at : DeniesStart (setting p) rank (seen p) (Some t, bytes) why =
+    inl (subst (λ (xs : List ℕ). Refuses (setting p) (seen p) (Start rank t xs) why) copied refused) in
+    subst (λ (k : Parts). DeniesStart (setting k) rank (seen k) (r, bytes) why) same
+    (subst (λ (q : Option Ticket). DeniesStart (setting p) rank (seen p) (q, bytes) why) (sym is) at)

@@ -5,7 +5,8 @@ use Rattle.coll_kinds.specs.declared.refusal.Refusal.TheVariants.{BadComm, BadLe
 use Rattle.coll_kinds.specs.declared.signature.Signature.{Signature}
 use Rattle.coll_kinds.specs.declared.ticket.Ticket.{Ticket}
 use Rattle.coll_kinds.specs.Common.{broken, member_of}
-use Rattle.coll_machine.specs.Common.{Call, Init, Planned, Post, Retire, Ticketed, MachineStep, StepsTo, first_of, refusal, unless, Runs, Setting, group, size, Machine, State}
+use Rattle.coll_machine.specs.Common.{Call, Init, Planned, Post, Retire, Ticketed, MachineStep, StepsTo, first_of, refusal, unless, Runs, Setting}
+use Rattle.coll_machine.specs.Common.{group, size, Machine, State}
 use Rattle.coll_sched.specs.Schedules.{Parts as Schedule}
 use Rattle.coll_plans.specs.Plans.{family}
 use Rattle.coll_core.specs.Calls.{Refuses}
@@ -85,6 +86,11 @@ pub record Completes (g : Setting) (m : Machine) (rank : ℕ) (r : Option Ticket
   pub count_is : count ≡ length outcome.bytes
   pub room : count ≤ length old
   pub fills : Fills old new outcome.bytes
+
+-- the request was completed, and its outcome isn't longer than the room
+pub record Takes (g : Setting) (m : Machine) (rank : ℕ) (r : Option Ticket) (room : ℕ) (outcome : Outcome) (n : Machine) : Type 0 where
+  pub runs : Runs g m (completion rank r outcome) n
+  pub within : length outcome.bytes ≤ room
 
 -- the request is Done, and there is room for fewer bytes than its outcome has
 pub record IsShort (g : Setting) (m : Machine) (t : Ticket) (room : ℕ) (why : Refusal) : Type 0 where

@@ -1,5 +1,6 @@
 -- What the calls over lists of requests do, and how they are refused.
-use Rattle.std.specs.Prelude.{◌≡◌, ◌⊎◌, ◌≤◌, ◌+◌, ◌++◌, ℕ, Bool, true, false, List, [], ◌∷◌, drop, length, map, slice_get, slice_index, slice_set, take, Option, Some, None, is_some, if◌then◌else◌}
+use Rattle.std.specs.Prelude.{◌≡◌, ◌⊎◌, ◌≤◌, ◌+◌, ◌++◌, ℕ, Bool, true, false, List, [], ◌∷◌, drop, length, map, slice_get, slice_index, slice_set}
+use Rattle.std.specs.Prelude.{take, Option, Some, None, is_some, if◌then◌else◌}
 use Rattle.coll_kinds.specs.declared.refusal.Refusal.{Refusal}
 use Rattle.coll_machine.specs.Common.{Runs, Setting, Machine, State}
 use Rattle.coll_core.specs.declared.outcome.Outcome.{Outcome}

@@ -1,4 +1,4 @@
-ghost use Rattle.std.specs.Prelude.{◌≡◌, Some, false, IsOkUnless, OnErr, OnOk};
+ghost use Rattle.std.specs.Prelude.{◌≡◌, None, Some, false, IsOkUnless, OnErr, OnOk};
 ghost use Rattle.coll_serial.specs.Combinations.{is_due, piece_of};
 
 use coll_core::{DoneWork, Work};
@@ -43,6 +43,13 @@ impl Model for Combination {
 }
 
 impl Combination {
+    /// No combination, in whose place one comes.
+    pub fn none() -> Combination
+        ensures { result ≡ None }
+    {
+        Combination { stage: None }
+    }
+
     /// One that is to be computed.
     pub(crate) fn due(work: Work) -> Combination
         ensures { result ≡ Some (Stage.Due work) }

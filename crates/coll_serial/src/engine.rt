@@ -9,7 +9,7 @@ mod signatures;
 mod starting;
 mod testing;
 
-ghost use Rattle.std.specs.Prelude.{◌≡◌, ◌↔◌, Some, IfErr, IfOk, IsTrue};
+ghost use Rattle.std.specs.Prelude.{◌≡◌, ◌↔◌, Some, IfErr, IfOk, IsOkUnless, IsTrue};
 ghost use Rattle.std.specs.Result.{result_err};
 ghost use Rattle.coll_machine.specs.Lents.{lent_bytes};
 ghost use Rattle.coll_core.specs.Configs.{IsUnopened, idle, setting_by};
@@ -22,6 +22,7 @@ ghost use Rattle.coll_serial.specs.Lengths.{IsOutcomeLengthAt};
 use coll_complete::Request;
 use coll_core::{About, Communicators, Config, Core, Phase};
 use coll_kinds::Refusal;
+use coll_plan_cache::Plans;
 use std::alloc::Global;
 use std::marker::Model;
 
@@ -33,6 +34,8 @@ pub struct Engine {
     communicators: Communicators,
     /// By slot, the length of the outcome of the slot's request, in bytes.
     outcome_lengths: Vec<u32>,
+    /// By rank, the plans that it made last.
+    plans: Vec<Plans>,
     core: Core,
 }
 
@@ -45,6 +48,21 @@ impl Model for Engine {
     ghost view = { λ e. e.core };
 
     ghost invariant = { λ e. IsEngine e.core e.communicators e.outcome_lengths.items };
+}
+
+/// No plan of any rank.
+///
+/// # Errors
+///
+/// NoMemory.
+fn no_plans(alloc: Global, ranks: u8) -> Result<Vec<Plans>, Refusal>
+    ensures { IsOkUnless result Refusal.NoMemory }
+{
+    let mut plans = Vec::new(alloc);
+    for _rank in 0..ranks {
+        plans.push(Plans::new(alloc))?;
+    }
+    Ok(plans)
 }
 
 impl Engine {
@@ -62,11 +80,13 @@ impl Engine {
         config.check()?;
         let communicators = Communicators::of(alloc, &config)?;
         let outcome_lengths = Vec::from_elem(alloc, 0, config.slots as usize)?;
+        let plans = no_plans(alloc, config.ranks)?;
         let core = Core::open(alloc, config)?;
         Ok(Engine {
             alloc,
             communicators,
             outcome_lengths,
+            plans,
             core,
         })
     }

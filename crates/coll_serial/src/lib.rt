@@ -5,6 +5,7 @@
 //! |---|---|
 //! | `combination` | `Combination`: a combination that is computed outside the engine |
 //! | `test` | `Test`: the result of a test of one request |
+//! | `taken` | `Taken`: the same result with the outcome itself |
 //! | `part` | `Part`: a request of a list with its span of the list's memory |
 //! | `distinct` | `are_distinct`: the precondition of tests of lists |
 //! | `first` | `First`: the result of a test of a list for one request |
@@ -27,11 +28,12 @@ mod engine;
 mod first;
 mod part;
 mod stopped;
+mod taken;
 mod test;
 pub mod threads;
 
 pub use coll_complete::Request;
-pub use coll_core::{About, Config, Phase};
+pub use coll_core::{About, Config, Contribution, Phase};
 pub use coll_kinds::{Datatype, Kind, Mode, Op, Refusal, Signature, Ticket};
 pub use combination::{Combination, Stage};
 pub use distinct::are_distinct;
@@ -39,4 +41,5 @@ pub use engine::Engine;
 pub use first::First;
 pub use part::Part;
 pub use stopped::Stopped;
+pub use taken::Taken;
 pub use test::Test;

@@ -14,6 +14,7 @@ pub fn engines_go() {
     goes::<Engine>();
     goes::<Option<Box<Engine>>>();
     goes::<Option<Box<Combination>>>();
+    goes::<Option<Box<Contribution>>>();
 }
 
 /// So may a core, and what is handed to it and by it.

@@ -4,7 +4,7 @@ ghost use Rattle.std.specs.Prelude.{◌≡◌, ◌↔◌, [], IfErr, IfNone, IfO
 ghost use Rattle.coll_core.specs.declared.stepped.Stepped.{Stepped as How};
 ghost use Rattle.coll_core.specs.declared.stepped.Stepped.TheVariants.{Quiet};
 ghost use Rattle.coll_core.specs.Cores.{seen, setting};
-ghost use Rattle.coll_core.specs.Steps.{CommitsOwn, Finishings, IsOut, Steps, ready};
+ghost use Rattle.coll_core.specs.Steps.{CommitsOwn, Finishings, IsOut, Steps, ready, running};
 ghost use Rattle.coll_serial.specs.Combinations.{IsHandedOut, IsOutside, TakesBack, is_computed, is_due, piece_of};
 ghost use Rattle.coll_serial.specs.Progress.{Advances};
 
@@ -20,12 +20,13 @@ impl Engine {
     ///
     /// # Errors
     ///
-    /// NoMemory; the actions that were done before stay done.
+    /// NoMemory; the actions that were done before stay done, and no combination is lost.
     pub fn hand_out(&mut self) -> Result<Option<Combination>, Refusal>
         ensures setting { setting self.new ≡ setting self.old }
         ensures finishes { Finishings (setting self.old) (seen self.old) (seen self.new) }
         ensures out { IfOk result (λ found. IfSome found (IsHandedOut self.new)) }
-        ensures quiet { IfOk result (λ found. IfNone found (ready self.new ≡ [])) }
+        ensures quiet { IfOk result (λ found. IfNone found ((ready self.new ≡ []) × (running self.new ≡ running self.old))) }
+        ensures err { OnErr result (running self.new ≡ running self.old) }
         ensures refusal { IsOkUnless result Refusal.NoMemory }
     {
         loop {

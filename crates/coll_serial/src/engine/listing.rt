@@ -37,7 +37,9 @@ impl Engine {
         ensures undefined { IfOk result (λ first. is_undefined first ≡ not (list_any (is_active (seen self.old)) (tickets_of parts.old))) }
         ensures lowest { IfOk result (λ first. position_of first ≡ position (is_done (seen self.old)) (tickets_of parts.old)) }
         ensures none { IfOk result (λ first. IfNone (position_of first) ((self.new ≡ self.old) × (parts.new ≡ parts.old) × (out.new ≡ out.old))) }
-        ensures completes { IfOk result (λ first. IfSome (position_of first) (λ position. CompletesOne (setting self.old) rank (seen self.old) (seen self.new) position parts.old parts.new out.old out.new)) }
+        ensures completes { IfOk result
+            (λ first. IfSome (position_of first)
+            (λ position. CompletesOne (setting self.old) rank (seen self.old) (seen self.new) position parts.old parts.new out.old out.new)) }
     {
         let survey = match self.survey(rank, parts) {
             Ok(survey) => survey,
@@ -78,7 +80,8 @@ impl Engine {
         ensures undefined { IfOk result (λ count. is_some count ≡ list_any (is_active (seen self.old)) (tickets_of parts.old)) }
         ensures inactive { IfOk result (λ count. IfNone count ((self.new ≡ self.old) × (parts.new ≡ parts.old) × (out.new ≡ out.old))) }
         ensures count { IfOk result (λ count. IfSome count (λ n. n ≡ length (done_positions (seen self.old) (tickets_of parts.old)))) }
-        ensures completes { IfOk result (λ count. OnSome count (CompletesParts (setting self.old) rank (seen self.old) (seen self.new) parts.old parts.new out.old out.new)) }
+        ensures completes { IfOk result
+            (λ count. OnSome count (CompletesParts (setting self.old) rank (seen self.old) (seen self.new) parts.old parts.new out.old out.new)) }
     {
         let survey = match self.survey(rank, parts) {
             Ok(survey) => survey,
@@ -110,7 +113,8 @@ impl Engine {
         ensures err { OnErr result ((self.new ≡ self.old) × (parts.new ≡ parts.old) × (out.new ≡ out.old)) }
         ensures flag { IfOk result (λ flag. flag ≡ not (list_any (is_pending (seen self.old)) (tickets_of parts.old))) }
         ensures unfinished { IfOk result (λ flag. OnFalse flag ((self.new ≡ self.old) × (parts.new ≡ parts.old) × (out.new ≡ out.old))) }
-        ensures completes { IfOk result (λ flag. OnTrue flag (CompletesParts (setting self.old) rank (seen self.old) (seen self.new) parts.old parts.new out.old out.new)) }
+        ensures completes { IfOk result
+            (λ flag. OnTrue flag (CompletesParts (setting self.old) rank (seen self.old) (seen self.new) parts.old parts.new out.old out.new)) }
     {
         let survey = match self.survey(rank, parts) {
             Ok(survey) => survey,

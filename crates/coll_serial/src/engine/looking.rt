@@ -55,7 +55,10 @@ impl Engine {
     /// Refuses a span that is too short for the outcome of a request that is Done.
     pub(crate) fn check_span(&self, rank: u8, part: &Part, len: usize) -> Result<(), Refusal>
         ensures refused { IfErr result (IsShortAt (setting self.now) (seen self.now) (ticket_of part.now) (span_len part.now len)) }
-        ensures fits { OnOk result (is_done (seen self.now) (ticket_of part.now) ≡ true → refusal_at (setting self.now) (seen self.now).state rank (ticket_of part.now) ≡ None → Fits (setting self.now) (seen self.now).state part.now len) }
+        ensures fits { OnOk result
+            (is_done (seen self.now) (ticket_of part.now) ≡ true
+            → refusal_at (setting self.now) (seen self.now).state rank (ticket_of part.now) ≡ None
+            → Fits (setting self.now) (seen self.now).state part.now len) }
     {
         let Some(ticket) = part.request().ticket() else {
             return Ok(());

@@ -7,7 +7,7 @@ ghost use Rattle.coll_core.specs.Steps.{Finishings, IsOut, ready};
 ghost use Rattle.coll_serial.specs.Progress.{Advances};
 
 use crate::engine::Engine;
-use coll_core::{Stepped, Work};
+use coll_core::{ShortWork, Stepped, Work};
 use coll_kinds::Refusal;
 
 impl Engine {
@@ -44,7 +44,7 @@ impl Engine {
         ensures quiet { OnOk result (ready self.new ≡ []) }
         ensures refusal { IsOkUnless result Refusal.NoMemory }
     {
-        while self.advance()? {}
+        self.core.settle()?;
         Ok(())
     }
 
@@ -55,6 +55,25 @@ impl Engine {
         ensures err { OnErr result ((setting self.new ≡ setting self.old) × (seen self.new ≡ seen self.old)) }
         ensures refusal { IsOkUnless result Refusal.NoMemory }
     {
+        match self.core.move_on()? {
+            Stepped::Quiet => self.combine_first(),
+            Stepped::Moved => Ok(true),
+            Stepped::Finished => Ok(true),
+            Stepped::Out(_work) => unreachable!(),
+        }
+    }
+
+    /// Makes one action as `advance` does, where it is a combination or none can be made. A short combination takes no memory.
+    fn combine_first(&mut self) -> Result<bool, Refusal>
+        ensures advances { IfOk result (λ acted. Advances self.old self.new (if acted then 1 else 0)) }
+        ensures quiet { IfOk result (λ acted. OnFalse acted ((ready self.old ≡ []) × (self.new ≡ self.old))) }
+        ensures err { OnErr result ((setting self.new ≡ setting self.old) × (seen self.new ≡ seen self.old)) }
+        ensures refusal { IsOkUnless result Refusal.NoMemory }
+    {
+        if let Some(work) = self.core.hand_out_short() {
+            self.combine_short(work);
+            return Ok(true);
+        }
         match self.core.step()? {
             Stepped::Quiet => Ok(false),
             Stepped::Moved => Ok(true),
@@ -64,6 +83,17 @@ impl Engine {
                 Ok(true)
             }
         }
+    }
+
+    /// Computes a short combination that was handed out.
+    fn combine_short(&mut self, work: ShortWork)
+        requires { IsOut self.old work }
+        ensures { Advances self.old self.new 1 }
+    {
+        let Ok(stepped) = self.core.commit_short(work.run()) else {
+            unreachable!()
+        };
+        stepped.has_finished();
     }
 
     /// Computes a combination that was handed out.

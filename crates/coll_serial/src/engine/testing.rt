@@ -3,11 +3,12 @@
 ghost use Rattle.std.specs.Prelude.{◌≡◌, ◌≤◌, IfErr, IfOk, OnErr, OnOk, false, length};
 ghost use Rattle.coll_core.specs.Cores.{seen, setting};
 ghost use Rattle.coll_complete.specs.Requests.{is_done, is_pending, left_of};
-ghost use Rattle.coll_serial.specs.Calls.{Completes, DeniesTest, Fills};
+ghost use Rattle.coll_serial.specs.Calls.{Completes, DeniesTest, Fills, Takes};
 ghost use Rattle.coll_serial.specs.Lengths.{RoomFor};
-ghost use Rattle.coll_serial.specs.Tests.{IfCompleted, is_completed, is_unfinished};
+ghost use Rattle.coll_serial.specs.Tests.{IfCompleted, IfTaken, is_completed, is_taken, is_unfinished, is_untaken};
 
 use crate::engine::Engine;
+use crate::taken::Taken;
 use crate::test::Test;
 use coll_complete::{Request, Tested, test};
 use coll_core::Phase;
@@ -29,20 +30,45 @@ impl Engine {
         ensures pending { IfOk result (λ test. is_unfinished test ≡ is_pending (seen self.old) request.old) }
         ensures completed { IfOk result (λ test. is_completed test ≡ is_done (seen self.old) request.old) }
         ensures none { IfOk result (λ test. is_completed test ≡ false → (self.new ≡ self.old) × (out.new ≡ out.old)) }
-        ensures completes { IfOk result (IfCompleted (λ count. Completes (setting self.old) (seen self.old) rank request.old out.old count out.new (seen self.new))) }
+        ensures completes { IfOk result
+            (IfCompleted (λ count. Completes (setting self.old) (seen self.old) rank request.old out.old count out.new (seen self.new))) }
         ensures request { OnOk result (request.new ≡ left_of (seen self.old) request.old) }
     {
-        self.check_room(rank, request, out.len())?;
+        match self.take(rank, request, out.len())? {
+            Taken::Inactive => Ok(Test::Inactive),
+            Taken::Pending => Ok(Test::Pending),
+            Taken::Completed(outcome) => {
+                lay_out(outcome.bytes.as_slice(), out);
+                Ok(Test::Completed(outcome.bytes.len() as usize))
+            }
+        }
+    }
+
+    /// `test` that hands the outcome out, so that it can be copied without a lock, to memory of so many bytes. It takes no memory.
+    ///
+    /// # Errors
+    ///
+    /// Those of `test`, with nothing changed.
+    pub fn take(&mut self, rank: u8, request: &mut Request, room: usize) -> Result<Taken, Refusal>
+        ensures setting { setting self.new ≡ setting self.old }
+        ensures refused { IfErr result (DeniesTest (setting self.old) (seen self.old) rank request.old room) }
+        ensures err { OnErr result ((self.new ≡ self.old) × (request.new ≡ request.old)) }
+        ensures pending { IfOk result (λ taken. is_untaken taken ≡ is_pending (seen self.old) request.old) }
+        ensures completed { IfOk result (λ taken. is_taken taken ≡ is_done (seen self.old) request.old) }
+        ensures none { IfOk result (λ taken. is_taken taken ≡ false → self.new ≡ self.old) }
+        ensures takes { IfOk result (IfTaken (λ outcome. Takes (setting self.old) (seen self.old) rank request.old room outcome (seen self.new))) }
+        ensures request { OnOk result (request.new ≡ left_of (seen self.old) request.old) }
+    {
+        self.check_room(rank, request, room)?;
         lock_is_free(&self.core);
         let Tested { flag, outcome } = match test(&mut self.core, rank, request) {
             Ok(tested) => tested,
             Err(why) => return Err(why),
         };
         let Some(outcome) = outcome else {
-            return Ok(Test::without_outcome(flag));
+            return Ok(Taken::without_outcome(flag));
         };
-        lay_out(outcome.bytes.as_slice(), out);
-        Ok(Test::Completed(outcome.bytes.len() as usize))
+        Ok(Taken::Completed(outcome))
     }
 
     /// Refuses memory that is too short for the outcome of a request that is Done.

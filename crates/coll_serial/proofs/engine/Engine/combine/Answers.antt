@@ -12,4 +12,5 @@ invariant_of-self c =
 
 pub returns-in-Ok-commit-clause-advances : goal.returns-in-Ok-commit-clause-advances
 returns-in-Ok-commit-clause-advances c =
-    subst (λ (p : Parts). Advances p c.commit.new.self 1) c.self.view_is (advances_own c.self.inside.core c.commit.new.self c.in-Ok.done.piece c.in-Ok-commit.stepped c.in-Ok-commit.ensures.own)
+    subst (λ (p : Parts). Advances p c.commit.new.self 1) c.self.view_is
+    (advances_own c.self.inside.core c.commit.new.self c.in-Ok.done.piece c.in-Ok-commit.stepped c.in-Ok-commit.ensures.own)

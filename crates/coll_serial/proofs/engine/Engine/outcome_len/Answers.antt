@@ -15,5 +15,6 @@ pub returns-in-Ok-clause-len : goal.returns-in-Ok-clause-len
 returns-in-Ok-clause-len c =
     let p = c.self.inside.core in let lengths = c.self.inside.outcome_lengths.items in
     let low = named_low (setting p) (seen p) c.in-Some.ticket c.in-Ok.field-0 lengths c.self.invariant.measured c.in-Ok.ensures.phase in
-    length_for p c.args.self.now c.self.view_is c.args.request.now c.in-Some.ticket (sym c.ticket.ensures ∙ c.in-Some.is) lengths c.in-Ok.field-0 c.index.result.now
+    length_for p c.args.self.now c.self.view_is c.args.request.now c.in-Some.ticket (sym c.ticket.ensures ∙ c.in-Some.is) lengths
+    c.in-Ok.field-0 c.index.result.now
     c.self.invariant.measured c.in-Ok.ensures.phase (looked_up lengths c.in-Some.ticket.slot c.index.result.now low c.index.ensures)

@@ -1,22 +1,7 @@
-use Rattle.std.proofs.Common.{◌<◌, length, arith}
 use Rattle.coll_core.specs.Cores.{seen, setting}
-use Rattle.coll_core.specs.Posts.{planned}
-use Rattle.coll_serial.proofs.Keeping.{kept_posted}
-use Rattle.coll_serial.proofs.Measuring.{post_low}
 use Rattle.coll_serial.proofs.Refused.{post_denied}
 use Rattle.coll_serial.proofs.engine.Engine.post.Goals as goal
 
-pub index_mut-requires : goal.index_mut-requires
-index_mut-requires c =
-    let p = c.self.inside.core in
-    let low : c.in-Ok-post.ticket.slot < length c.self.inside.outcome_lengths.items =
-    post_low (setting p) (seen p) (seen c.post.new.self) c.args.rank c.args.comm (planned c.in-Ok.plan) c.in_ok-bytes.bytes c.in-Ok-post.ticket c.self.inside.outcome_lengths.items c.in-Ok-post.ensures.posted c.self.invariant.measured in
-    omega (arith, low, c.self.inside.outcome_lengths.ok)
-
-pub invariant_of-self : goal.invariant_of-self
-invariant_of-self c =
-    kept_posted c.self.inside.core c.post.new.self c.self.inside.communicators c.self.inside.outcome_lengths.items c.args.rank c.args.comm (planned c.in-Ok.plan) c.in_ok-bytes.bytes c.in-Ok-post.ticket c.outcome_len-outcome_len.result
-    c.self.invariant c.in-Ok-post.ensures.setting c.in-Ok-post.ensures.posted c.outcome_len-outcome_len.ensures
-
 pub returns-in-Err-clause-refused : goal.returns-in-Err-clause-refused
-returns-in-Err-clause-refused c = post_denied (setting c.args.self.now) (seen c.args.self.now) c.args.rank c.args.comm c.args.sig c.args.bytes.now c.in-Err.why c.in-Err.ensures.refused
+returns-in-Err-clause-refused c =
+    post_denied (setting c.args.self.now) (seen c.args.self.now) c.args.rank c.args.comm c.args.sig c.args.bytes.now c.in-Err.why c.in-Err.ensures.refused
