@@ -46,8 +46,8 @@ impl<C: Clock> RankProgram<Times> for Sampling<'_, C> {
     }
 }
 
-/// The configuration of a measure's engine: one communicator of this number of ranks.
-fn config_of(alloc: Global, ranks: u8, measure: Measure) -> Result<Config, Refusal>
+/// The configuration of an engine with one communicator of this number of ranks, and so many slots.
+pub fn config_for(alloc: Global, ranks: u8, slots: u32) -> Result<Config, Refusal>
     ensures { IfOk result (λ config. config.ranks ≡ ranks) }
 {
     let mut all = Vec::new(alloc);
@@ -56,7 +56,6 @@ fn config_of(alloc: Global, ranks: u8, measure: Measure) -> Result<Config, Refus
     }
     let mut groups = Vec::new(alloc);
     groups.push(all)?;
-    let slots = measure.slots(ranks);
     Ok(Config {
         slots,
         ..roomy(ranks, groups)
@@ -92,7 +91,7 @@ pub fn run_task<R: Threads + Wait + Clock + Sync>(
     task: Measurement,
 ) -> Times {
     let ThreadCounts { ranks, workers } = threads;
-    let config = config_of(alloc, ranks, task.measure)?;
+    let config = config_for(alloc, ranks, task.measure.slots(ranks))?;
     let programs = programs(rt, alloc, ranks, task)?;
     let (mut ends, _report) = run_ranks(rt, alloc, config, workers, &NoGate, programs)?;
     ends.truncate(1);

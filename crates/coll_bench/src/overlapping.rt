@@ -1,0 +1,162 @@
+//! What the thread of one rank does where overlap is timed.
+
+use crate::collective::Collective;
+use crate::computing::{Computing, Measured, OwnWords};
+use coll_complete::Request;
+use coll_core::{Contribution, Offer};
+use coll_kinds::Refusal;
+use coll_shared::{NoGate, Port, RankProgram};
+use coll_traced::Entries;
+use std::alloc::Global;
+use std::rt::Clock;
+use std::sync::Wait;
+use std::time::Instant;
+
+/// What each rank does, over and over: it posts, computes, and waits.
+#[derive(Clone, Copy, Debug)]
+pub struct OverlapTask {
+    pub collective: Collective,
+    pub ranks: u8,
+    pub samples: u32,
+    /// Whether it posts and waits; else it only computes.
+    pub posts: bool,
+    pub computing: Computing,
+}
+
+/// Nanoseconds of the parts of one sample, or their medians.
+#[derive(Clone, Copy, Debug, Default)]
+pub struct Parts {
+    pub post: u64,
+    pub computing: u64,
+    pub wait: u64,
+    pub total: u64,
+}
+
+/// The program of a rank, which takes a task's samples by a clock.
+#[derive(Drop)]
+pub struct Overlapping<'x, C> {
+    pub clock: &'x C,
+    pub alloc: Global,
+    pub task: OverlapTask,
+}
+
+/// The medians of a rank's samples.
+pub type Medians = Result<Parts, Refusal>;
+
+impl<C: Clock> RankProgram<Medians> for Overlapping<'_, C> {
+    fn run<L: Entries, R: Wait + Clock>(self, rt: &R, port: &mut Port<L>) -> Medians {
+        let Overlapping { clock, alloc, task } = self;
+        let mut words = OwnWords::new(alloc)?;
+        let mut all = Vec::with_capacity(alloc, task.samples as usize)?;
+        for turn in 0..task.samples {
+            all.push(sample(rt, clock, alloc, port, task, &mut words, turn)?)?;
+        }
+        Ok(Parts {
+            post: median(alloc, &all, |parts| parts.post)?,
+            computing: median(alloc, &all, |parts| parts.computing)?,
+            wait: median(alloc, &all, |parts| parts.wait)?,
+            total: median(alloc, &all, |parts| parts.total)?,
+        })
+    }
+}
+
+/// The median of one part; 0 of no samples.
+fn median(alloc: Global, all: &[Parts], part: impl Fn(&Parts) -> u64) -> Result<u64, Refusal> {
+    let mut times = Vec::with_capacity(alloc, all.len())?;
+    for parts in all {
+        times.push(part(parts))?;
+    }
+    times.sort_unstable();
+    Ok(times.get(times.len() / 2).copied().unwrap_or(0))
+}
+
+/// Reads the clock.
+fn now<C: Clock>(clock: &C) -> Result<Instant, Refusal> {
+    match Instant::now(clock) {
+        Ok(time) => Ok(time),
+        Err(_) => Err(Refusal::Torn),
+    }
+}
+
+/// The nanoseconds from one reading of the clock to a later one.
+fn between(from: Instant, to: Instant) -> u64 {
+    to.duration_since(from).as_nanos().min(u128::from(u64::MAX)) as u64
+}
+
+/// Takes one sample. The rank writes its row before, as a program computes what it gives; that isn't timed.
+fn sample<L: Entries, R: Wait + Clock, C: Clock>(
+    rt: &R,
+    clock: &C,
+    alloc: Global,
+    port: &mut Port<L>,
+    task: OverlapTask,
+    words: &mut OwnWords,
+    turn: u32,
+) -> Result<Parts, Refusal> {
+    let len = task.collective.given_len(port.rank(), task.ranks);
+    let byte = port.rank().wrapping_add((turn % 256) as u8);
+    let row = Contribution::new(vec![in alloc; byte; len]?);
+    let begun = now(clock)?;
+    let mut request = if task.posts {
+        post(rt, port, task.collective, row)?
+    } else {
+        Request::null()
+    };
+    let posted = now(clock)?;
+    compute(rt, clock, port, task.computing, words, &mut request)?;
+    let computed = now(clock)?;
+    let (_outcome, _receipts) = port.wait(rt, &NoGate, &mut request)?;
+    let ended = now(clock)?;
+    Ok(Parts {
+        post: between(begun, posted),
+        computing: between(posted, computed),
+        wait: between(computed, ended),
+        total: between(begun, ended),
+    })
+}
+
+/// Plans the collective and posts it on communicator 0.
+fn post<L: Entries, R: Wait + Clock>(
+    rt: &R,
+    port: &mut Port<L>,
+    collective: Collective,
+    bytes: Contribution,
+) -> Result<Request, Refusal> {
+    let plan = port.ready_plan(0, &collective.signature())?;
+    match port.post(rt, 0, Offer { plan, bytes }) {
+        Ok((request, _receipt)) => Ok(request),
+        Err(refused) => Err(refused.why),
+    }
+}
+
+/// Computes, and tests the request now and then until it is completed.
+fn compute<L: Entries, R: Wait + Clock, C: Clock>(
+    rt: &R,
+    clock: &C,
+    port: &mut Port<L>,
+    computing: Computing,
+    words: &mut OwnWords,
+    request: &mut Request,
+) -> Result<(), Refusal> {
+    let begun = now(clock)?;
+    let mut tested = 0;
+    for chunk in 0..u64::MAX {
+        let done = match computing.measured {
+            Measured::Clock => between(begun, now(clock)?),
+            Measured::Work => chunk,
+        };
+        if done >= computing.length {
+            break;
+        }
+        let is_test_due = computing.between_tests > 0
+            && done.saturating_sub(tested) >= computing.between_tests;
+        if is_test_due && request.ticket().is_some() {
+            let (_tested, _receipts) = port.test(rt, request)?;
+            tested = done;
+        }
+        if computing.measured == Measured::Work {
+            words.compute();
+        }
+    }
+    Ok(())
+}
