@@ -33,10 +33,10 @@ fn is_wanted(named: &Option<String>, part: &str) -> bool {
     }
 }
 
-/// The next word on the command line.
-fn next_word(words: &mut impl Iterator<Item = String>) -> anyhow::Result<String> {
-    match words.next() {
-        Some(word) => Ok(word),
+/// A word of those after `overlap times`.
+fn word_at(words: &[String], at: usize) -> anyhow::Result<&str> {
+    match words.get(at) {
+        Some(word) => Ok(word.as_str()),
         None => anyhow::bail!(
             "overlap times COLLECTIVE BYTES RANKS WORKERS clock|work TESTS PERCENT"
         ),
@@ -44,28 +44,29 @@ fn next_word(words: &mut impl Iterator<Item = String>) -> anyhow::Result<String>
 }
 
 /// What the words after `overlap times` say.
-fn overlap_of(words: &mut impl Iterator<Item = String>) -> anyhow::Result<Overlap> {
-    let name = next_word(words)?;
-    let bytes: u32 = next_word(words)?.parse()?;
-    let Some(collective) = Collective::of(name.as_str(), bytes) else {
+fn overlap_of(words: &[String]) -> anyhow::Result<Overlap> {
+    let bytes: u32 = word_at(words, 1)?.parse()?;
+    let Some(collective) = Collective::of(word_at(words, 0)?, bytes) else {
         anyhow::bail!(
             "collectives are barrier, bcast, allreduce and alltoall, of a multiple of 8 bytes"
         );
     };
-    let ranks: u8 = next_word(words)?.parse()?;
+    let ranks: u8 = word_at(words, 2)?.parse()?;
     anyhow::ensure!((1..=64).contains(&ranks), "ranks are 1 to 64");
-    let workers: u8 = next_word(words)?.parse()?;
-    let measured = match next_word(words)?.as_str() {
+    let workers: u8 = word_at(words, 3)?.parse()?;
+    let measured = match word_at(words, 4)? {
         "clock" => Measured::Clock,
         "work" => Measured::Work,
         _ => anyhow::bail!("ranks compute by the clock or by work"),
     };
+    let between_tests: u64 = word_at(words, 5)?.parse()?;
+    let percent: u64 = word_at(words, 6)?.parse()?;
     Ok(Overlap {
         collective,
         threads: ThreadCounts { ranks, workers },
         measured,
-        between_tests: next_word(words)?.parse()?,
-        percent: next_word(words)?.parse()?,
+        between_tests,
+        percent,
     })
 }
 
@@ -90,7 +91,11 @@ fn main(rt: HostRuntime) -> anyhow::Result<()> {
     }
     if is_wanted(&named, "overlap") {
         if is_timed {
-            overlap::time(&rt, rt.alloc(), overlap_of(&mut words)?)?;
+            let mut rest = Vec::new(rt.alloc());
+            for word in words {
+                rest.push(word)?;
+            }
+            overlap::time(&rt, rt.alloc(), overlap_of(&rest)?)?;
         } else {
             overlap::run(&rt, rt.alloc())?;
         }

@@ -7,7 +7,7 @@ use coll_core::{Contribution, Offer};
 use coll_kinds::Refusal;
 use coll_shared::{NoGate, Port, RankProgram};
 use coll_traced::Entries;
-use std::alloc::Global;
+use std::alloc::{AllocError, Global};
 use std::rt::Clock;
 use std::sync::Wait;
 use std::time::Instant;
@@ -47,27 +47,60 @@ impl<C: Clock> RankProgram<Medians> for Overlapping<'_, C> {
     fn run<L: Entries, R: Wait + Clock>(self, rt: &R, port: &mut Port<L>) -> Medians {
         let Overlapping { clock, alloc, task } = self;
         let mut words = OwnWords::new(alloc)?;
-        let mut all = Vec::with_capacity(alloc, task.samples as usize)?;
+        let mut samples = Samples::new(alloc);
         for turn in 0..task.samples {
-            all.push(sample(rt, clock, alloc, port, task, &mut words, turn)?)?;
+            samples.push(sample(rt, clock, alloc, port, task, &mut words, turn)?)?;
         }
-        Ok(Parts {
-            post: median(alloc, &all, |parts| parts.post)?,
-            computing: median(alloc, &all, |parts| parts.computing)?,
-            wait: median(alloc, &all, |parts| parts.wait)?,
-            total: median(alloc, &all, |parts| parts.total)?,
-        })
+        Ok(samples.medians())
     }
 }
 
-/// The median of one part; 0 of no samples.
-fn median(alloc: Global, all: &[Parts], part: impl Fn(&Parts) -> u64) -> Result<u64, Refusal> {
-    let mut times = Vec::with_capacity(alloc, all.len())?;
-    for parts in all {
-        times.push(part(parts))?;
+/// The samples of a rank, by parts.
+#[derive(Drop)]
+struct Samples {
+    post: Vec<u64>,
+    computing: Vec<u64>,
+    wait: Vec<u64>,
+    total: Vec<u64>,
+}
+
+impl Samples {
+    fn new(alloc: Global) -> Self {
+        Samples {
+            post: Vec::new(alloc),
+            computing: Vec::new(alloc),
+            wait: Vec::new(alloc),
+            total: Vec::new(alloc),
+        }
     }
+
+    fn push(&mut self, parts: Parts) -> Result<(), AllocError> {
+        self.post.push(parts.post)?;
+        self.computing.push(parts.computing)?;
+        self.wait.push(parts.wait)?;
+        self.total.push(parts.total)
+    }
+
+    fn medians(self) -> Parts {
+        let Samples {
+            post,
+            computing,
+            wait,
+            total,
+        } = self;
+        Parts {
+            post: median(post),
+            computing: median(computing),
+            wait: median(wait),
+            total: median(total),
+        }
+    }
+}
+
+/// The median; 0 of no times.
+fn median(mut times: Vec<u64>) -> u64 {
     times.sort_unstable();
-    Ok(times.get(times.len() / 2).copied().unwrap_or(0))
+    times.get(times.len() / 2).copied().unwrap_or(0)
 }
 
 /// Reads the clock.
@@ -80,7 +113,7 @@ fn now<C: Clock>(clock: &C) -> Result<Instant, Refusal> {
 
 /// The nanoseconds from one reading of the clock to a later one.
 fn between(from: Instant, to: Instant) -> u64 {
-    to.duration_since(from).as_nanos().min(u128::from(u64::MAX)) as u64
+    u64::try_from(to.duration_since(from).as_nanos()).unwrap_or(u64::MAX)
 }
 
 /// Takes one sample. The rank writes its row before, as a program computes what it gives; that isn't timed.
