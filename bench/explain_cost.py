@@ -1,5 +1,5 @@
 #!/usr/bin/env python3
-"""How long `colljob explain` and `colljob check` take beside `plain`: telling.py PROGRAM [ROUNDS]
+"""How long `colljob explain` and `colljob check` take beside `plain`: explain_cost.py PROGRAM [ROUNDS]
 
 Three texts: one of almost 1 MiB on 4 ranks; one of 64 ranks with 4,096 requests and their waits; and the first with 200 wrong words, of which
 `check` reports the faults up to its limit. It prints medians of the rounds, in which the commands take turns.
