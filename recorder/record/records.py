@@ -89,7 +89,7 @@ class Record:
             before = offset
             offset, state = self.read_some(itertools.islice(file, AT_ONCE), offset, *state)
             state = state if offset > before else None
-            step = repeated_step(self, file, offset) if state and not state[2] else None
+            step = repeated_step(file, offset) if state and not state[2] else None
             if step:
                 times = times_repeated(file, offset, step.text)
                 add_steps(self, step, times)

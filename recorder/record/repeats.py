@@ -18,17 +18,17 @@ class Step:
         self.text, self.commands, self.lines = text, commands, text.count(b"\n")
 
 
-def repeated_step(record, file, offset):
-    """The step that ends at an offset and is alike to the one before it, or None. It has only calls, messages and waits for these."""
+def repeated_step(file, offset):
+    """The step that ends at an offset and is alike to the one before it, or None. It has only calls, messages and waits for these. So it began
+    at the place and in the thread in which it ends, and adds the same each time."""
     size = min(FARTHEST, offset)
     tail = os.pread(file.fileno(), size, offset - size)
     for length in ENDS:
         at = tail.rfind(tail[-length:], 0, -1)
         period = len(tail) - at - length
         if at >= 0 and tail[-period:] == tail[-2 * period:-period]:
-            step = Step(tail[-period:], commands_of(tail[-period:]))
-            codes, many = record.commands.codes, step.commands
-            return step if many and codes[-many:] == codes[-2 * many:-many] else None
+            commands = commands_of(tail[-period:])
+            return Step(tail[-period:], commands) if commands else None
     return None
 
 
@@ -39,7 +39,7 @@ def commands_of(text):
         first, words = line[:1], line.split(b" ", 3)
         if first == b"+" and len(words) == 2 or first == b"=" or words[0] == b"call" and words[2] != b"p":
             count += 1
-        elif first not in (b"@", b"-"):
+        elif first not in (b"@", b"%", b"-"):
             return 0
     return count
 
