@@ -19,7 +19,7 @@ LONE = "ranks 1\nrank 0\npost 0 allreduce sum i32 2 : 4 5\ninit 0 barrier\nstart
 CROSSED = "ranks 2\ncomm 0 1\n" + "rank 0\npost 0 barrier\nwait 0\npost 1 barrier\nrank 1\npost 1 barrier\nwait 0\npost 0 barrier\n"
 # A gather's other member waits for nobody here, and may wait with another library.
 AHEAD = "# Rank 1 gives to a gather and goes on: its part is done, but a library may let it wait for rank 0.\nranks 2\ncomm 1 0\nrank 0\npost 1 barrier\nwait 0\npost 0 gather 0 u8 1 : 1\nrank 1\npost 0 gather 0 u8 1 : 2\nwait 0\npost 1 barrier\n"
-FILES = ("--trace", "--stats", "--picture", "--timeline", "--out")
+FILES = ("--trace", "--stats", "--picture", "--timeline", "--html", "--out")
 
 
 class Checks:
