@@ -20,7 +20,7 @@ use Rattle.coll_job.specs.declared.views.Views.{Views}
 -- some file is named
 abbrev pub are_wanted : Views → Bool
 are_wanted views =
-    is_some views.trace || (is_some views.stats || (is_some views.timeline || (is_some views.picture || is_some views.outcomes)))
+    is_some views.trace || (is_some views.stats || (is_some views.timeline || (is_some views.picture || (is_some views.page || is_some views.outcomes))))
 
 -- the requests of a closed engine's trace
 abbrev pub requests_of : Closed → List (List TracedRequest)
