@@ -217,7 +217,7 @@ function tableOf(title, head, lines) {
 if (data.program) data.title = `${data.program} ${data.file}`;
 if (data.timeline) {
     addEvents(JSON.parse(data.timeline).traceEvents.filter((it) => it.ph === "X"));
-    if (!data.verdict) [data.verdict, data.tone] = ["the run ended, and each request was completed", "good"];
+    if (!data.verdict) [data.verdict, data.tone] = ["the run ended well", "good"];
 }
 if (data.explained) addExplained(data.explained.split("\n").filter((line) => line.trim()).map((line) => JSON.parse(line)));
 if (data.stats) addTables(data.stats);
@@ -357,7 +357,8 @@ function drawAxis(colors) {
     context.strokeStyle = colors.line;
     context.textAlign = "center";
     for (let time = least + Math.ceil((first - least) / unit) * unit; time <= last; time += unit) {
-        context.fillText(timeWords(time - least), x(time), 12);
+        const words = timeWords(time - least), room = context.measureText(words).width / 2;
+        if (x(time) + room <= canvas.clientWidth) context.fillText(words, x(time), 12);
         context.beginPath();
         context.moveTo(x(time), TOP - 6);
         context.lineTo(x(time), height);
