@@ -1,6 +1,6 @@
 -- What the files on a run get.
 use denote.Ref.{Bor}
-use Rattle.std.specs.Prelude.{◌≡◌, ◌||◌, ℕ, [], ◌∷◌, Bool, List, Option, is_some, map}
+use Rattle.std.specs.Prelude.{◌≡◌, ◌||◌, ℕ, [], ◌∷◌, Bool, List, Option, Some, None, is_some, map}
 use Rattle.std.specs.Option.{option_copied, option_map}
 use Rattle.coll_diagnosis.specs.Verdicts as verdicts
 use Rattle.coll_page.specs.Pages.{page_text}
@@ -70,7 +70,9 @@ name_in page = page.name.now
 
 -- a file gets the page for a browser, where one is named
 abbrev pub IsRunPageFor : Option (Bor (List ℕ)) → List ℕ → Closed → Option ViewFile → Type 0
-IsRunPageFor name file r page = (bytes : List ℕ) × (option_map named_text page ≡ text_for name bytes) × IsRunPage file r bytes
+IsRunPageFor None file r page = page ≡ None
+IsRunPageFor (Some name) file r None = ⊥
+IsRunPageFor (Some name) file r (Some page) = (page.name.now ≡ name.now) × IsRunPage file r page.bytes.items
 
 -- each file that is named gets its own text: the trace, the tables, a timeline and a picture, of which nothing but the name is said, the
 -- page for a browser, and the outcomes
