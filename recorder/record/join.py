@@ -16,7 +16,8 @@ from differences import Contexts, Judge
 from job_text import Job, why_not_judged
 from messages import Messages
 from output import FAILED, run_reporting, write_out
-from records import Places, Unreadable, read_records
+from program_places import Places
+from records import Unreadable, read_records
 from stalls import doubts
 from standing import limits_of, ranks_unseen, read_nows
 

@@ -11,7 +11,8 @@ from agreement import call_name, call_words
 from differences import Contexts, Judge, difference_calls, difference_lines
 from job_text import MOST_RANKS, Job, why_not_judged
 from messages import MOST_STEPS, STALLS, Messages, MessageStalls
-from records import Places, Unreadable, rank_words, read_records, silent
+from program_places import Places
+from records import Unreadable, rank_words, read_records, silent
 from stalls import DOUBT, UNDECIDED, find_stalls
 from standing import Standings, calls_under_way, ranks_unseen, read_nows
 
