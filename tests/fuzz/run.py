@@ -30,19 +30,19 @@ SECONDS = 120
 class Collective:
     """One collective, or one persistent one, of a communicator."""
 
-    def __init__(self, dice, comm, members):
+    def __init__(self, dice, comm, members, counts):
         self.comm, self.members = comm, members
         self.kind = dice.choice(list(job_words.GIVEN))
         self.starts = dice.randint(1, 3) if dice.random() < 0.2 else 0
         self.root = dice.randrange(len(members))
-        self.count = dice.randint(0, 4)
+        self.count = dice.choice(counts)
         words = [self.kind]
         if self.kind in job_words.ROOTED:
             words.append(str(self.root))
         self.type = dice.choice(TYPES)
         if self.kind in job_words.COMBINING:
             words.append(dice.choice(job_words.OPERATIONS_ON[self.type]))
-        self.counts = [dice.randint(0, 4) for _ in members]
+        self.counts = [dice.choice(counts) for _ in members]
         if self.kind != "barrier":
             words += [self.type, *map(str, self.counts if job_words.GIVEN[self.kind] == "counted" else [self.count])]
         self.words = " ".join(words)
@@ -60,15 +60,15 @@ class Collective:
         return "".join(f" {dice.randint(0, 9)}" + (f",{rank}" if self.type == "2int" else "") for _ in range(n))
 
 
-def mixed(dice):
-    """The text of all kinds. All ranks go through the same events in the same order, and wait for earlier ones alone, so it
-    doesn't stall."""
-    comms = [list(range(RANKS))] + [dice.sample(range(RANKS), dice.randint(2, 12)) for _ in range(15)]
-    lines = [f"ranks {RANKS}"] + ["comm " + " ".join(map(str, members)) for members in comms[1:]]
+def mixed(dice, ranks=RANKS, collectives=COLLECTIVES, counts=range(5)):
+    """The text of all kinds, whose blocks have one of these counts of values. All ranks go through the same events in the same order, and
+    wait for earlier ones alone, so it doesn't stall."""
+    comms = [list(range(ranks))] + [dice.sample(range(ranks), dice.randint(2, min(12, ranks))) for _ in range(15)]
+    lines = [f"ranks {ranks}"] + ["comm " + " ".join(map(str, members)) for members in comms[1:]]
     events = []
-    for _ in range(COLLECTIVES):
+    for _ in range(collectives):
         comm = dice.randrange(len(comms))
-        one = Collective(dice, comm, comms[comm])
+        one = Collective(dice, comm, comms[comm], counts)
         events.append((one, 0))
     for one, _ in list(events):
         at = events.index((one, 0))
@@ -76,7 +76,7 @@ def mixed(dice):
             at = dice.randint(at + 1, min(at + 40, len(events)))
             events.insert(at, (one, start + 1))
     requests = 0
-    for rank in range(RANKS):
+    for rank in range(ranks):
         lines.append(f"rank {rank}")
         numbers = {}
         for one, start in events:
