@@ -160,6 +160,11 @@ check_c() {
     done
     # shellcheck disable=SC2086
     try_client left static $c "$here/c/left.c" $shim $static
+    copying="-Wl,--wrap=wz_post -Wl,--wrap=wz_start -Wl,--wrap=wz_test"
+    # shellcheck disable=SC2086
+    try_client given static $c "$here/c/given.c" $static $copying
+    # shellcheck disable=SC2086
+    [ ! "$checks_threads" ] || try_client given tsan $c -fsanitize=thread "$here/c/given.c" $shim $static $copying
     # shellcheck disable=SC2086
     try_client memory static $c "$here/c/memory.c" $static -Wl,--wrap=malloc,--wrap=realloc,--wrap=calloc,--wrap=aligned_alloc
     counted="-Wl,--wrap=wz_run_work -Wl,--wrap=wz_return_work -Wl,--wrap=wz_step -Wl,--wrap=wz_settle -Wl,--wrap=pthread_cond_wait"
@@ -174,7 +179,7 @@ check_c() {
     check_headers c c11 "$cc" gcc clang
     check_tables
     check_symbols
-    check_leaks refusals cases memory sum explained left "waits 3 5" "calls 3 2" "threads 4 20 quiet"
+    check_leaks refusals cases given memory sum explained left "waits 3 5" "calls 3 2" "threads 4 20 quiet"
 }
 
 # Where one rank's post is refused, the program ends, and the three others learn of it.
@@ -192,11 +197,12 @@ check_one_refusal() {
 check_helgrind() {
     has valgrind || { skip "C under Helgrind" "there is no valgrind"; return; }
     echo '#include <valgrind/helgrind.h>' | $cc -x c -fsyntax-only - 2> /dev/null || { skip "C under Helgrind" "there is no valgrind/helgrind.h"; return; }
-    for words in sum one_refusal explained "waits 2 3" "waits 4 1" "calls 3 1" "calls 8 1" "mixed 2 10 1" "mixed 3 5 2" "threads 2 5 quiet" "threads 4 3 quiet" "bounded 2 1"; do
+    for words in sum one_refusal explained given "waits 2 3" "waits 4 1" "calls 3 1" "calls 8 1" "mixed 2 10 1" "mixed 3 5 2" "threads 2 5 quiet" "threads 4 3 quiet" "bounded 2 1"; do
         client=${words%% *}
         arguments=${words#"$client"}
         sources=$here/c/$client.c
         [ "$client" != bounded ] || sources="$sources $counted"
+        [ "$client" != given ] || sources="$sources $copying"
         [ "$client" != one_refusal ] || sources="$sources $here/c/sum.c -Wl,--wrap=wz_post"
         # shellcheck disable=SC2086
         [ -x "$work/$client.helgrind" ] || check "build $client, helgrind" $c -DWZ_HELGRIND $sources $shim $static -o "$work/$client.helgrind"

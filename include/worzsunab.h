@@ -158,10 +158,18 @@ typedef struct wz_work {
     bool full;
 } wz_work;
 
+/* Bytes in the engine's own form: copied for a post or a start, or the outcome of a request. All zeros is none:
+   wz_bytes bytes = WZ_EMPTY_BYTES; */
+typedef struct wz_bytes {
+    void *at;
+    bool full;
+} wz_bytes;
+
 #define WZ_NO_REASON { 0, 0, 0, 0, false, { 0, 0, 0, 0, 0 }, 0, 0, 0, 0 }
 #define WZ_CLOSED_ENGINE { NULL, false, WZ_NO_REASON }
 #define WZ_NULL_REQUEST { 0, 0 }
 #define WZ_EMPTY_WORK { NULL, false }
+#define WZ_EMPTY_BYTES { NULL, false }
 
 /* What an engine is opened with. */
 typedef struct wz_limits {
@@ -204,7 +212,9 @@ enum {
     WZ_NO_WORK = 22,        /* there is no combination: none is left to take, or the wz_work has none */
     WZ_HAS_WORK = 23,       /* the wz_work has a combination already */
     WZ_TWICE = 24,          /* a request stands twice in a list */
-    WZ_NO_PLACE = 25        /* no member has posted so much, or there is no such communicator */
+    WZ_NO_PLACE = 25,       /* no member has posted so much, or there is no such communicator */
+    WZ_NO_BYTES = 26,       /* the wz_bytes has none */
+    WZ_HAS_BYTES = 27       /* the wz_bytes has some already */
 };
 
 /* ---- functions. After an answer that isn't WZ_DONE nothing has changed, in the engine, the request or the
@@ -317,6 +327,44 @@ int32_t wz_return_work(wz_engine *engine, wz_work *work);
 /* Gives up a combination, whose engine was closed. (In an engine that is open its request stays pending.)
    WZ_NO_WORK. */
 int32_t wz_drop_work(wz_work *work);
+
+/* ---- bytes outside the lock. What is posted and what is got may be long. So that other threads go on meanwhile, one
+        copies the bytes that are given before the lock is taken, and those of the outcome after it was given up:
+
+            wz_give(&bytes, row, length);
+            lock; wz_post_given(&engine, rank, comm, &call, &bytes, &request); unlock;
+
+            wz_give(&bytes, NULL, 0);
+            lock; wz_take_outcome(&engine, rank, &request, room, &bytes); unlock;
+            wz_copy_out(&bytes, out, room, &count);
+
+        A wz_bytes goes to one call at a time, and to any engine. */
+
+/* Copies bytes for a later call.
+   WZ_HAS_BYTES, WZ_NO_MEMORY. */
+int32_t wz_give(wz_bytes *bytes, const void *given, size_t length);
+
+/* As wz_post, wz_post_allgatherv and wz_start, with bytes that were given, which aren't copied again. After WZ_DONE the
+   wz_bytes is empty; after a refusal it is as before.
+   WZ_NO_BYTES, and then as those. */
+int32_t wz_post_given(wz_engine *engine, uint8_t rank, uint32_t comm, const wz_call *call, wz_bytes *bytes,
+                      wz_request *request);
+int32_t wz_post_allgatherv_given(wz_engine *engine, uint8_t rank, uint32_t comm, uint8_t type, const uint32_t *counts,
+                                 size_t many, wz_bytes *bytes, wz_request *request);
+int32_t wz_start_given(wz_engine *engine, uint8_t rank, const wz_request *request, wz_bytes *bytes);
+
+/* Completes a request as wz_test does. Its outcome takes the place of the bytes that were given, mostly none, without
+   being copied; where the request was null or not active, no bytes do. It takes no memory.
+   WZ_NO_BYTES, and then as wz_test; WZ_BAD_LENGTH where the outcome has more bytes than room says. */
+int32_t wz_take_outcome(wz_engine *engine, uint8_t rank, wz_request *request, size_t room, wz_bytes *bytes);
+
+/* Copies the bytes to the front of out; *count tells how many there are. The wz_bytes is empty then.
+   WZ_NO_BYTES, WZ_BAD_LENGTH (room is less; nothing has changed). */
+int32_t wz_copy_out(wz_bytes *bytes, void *out, size_t room, size_t *count);
+
+/* Gives the bytes up.
+   WZ_NO_BYTES. */
+int32_t wz_drop_bytes(wz_bytes *bytes);
 
 /* ---- what members have posted */
 

@@ -115,6 +115,29 @@ static void sums(uint32_t count) {
     WITHOUT(wz_close(&engine));
 }
 
+/* Bytes that are copied outside: only the copying takes memory for them. */
+static void outside(void) {
+    wz_engine engine = WZ_CLOSED_ENGINE;
+    wz_limits limits = wz_greatest_limits(2);
+    wz_call sum = { WZ_ALLREDUCE, WZ_SUM, WZ_INT32, 0, 600 };
+    wz_request requests[2] = { WZ_NULL_REQUEST, WZ_NULL_REQUEST };
+    static int32_t given[600], got[600];
+    wz_bytes bytes = WZ_EMPTY_BYTES;
+    size_t out = 9;
+    limits.slots = 8;
+    HOLDS(wz_open(&engine, &limits, &two, 1, members, 2) == WZ_DONE);
+    for (uint8_t rank = 0; rank < 2; rank++) {
+        WITH_LITTLE(wz_give(&bytes, given, sizeof given), !bytes.full && bytes.at == NULL);
+        WITH_LITTLE(wz_post_given(&engine, rank, 0, &sum, &bytes, &requests[rank]), bytes.full && requests[rank].generation == 0);
+    }
+    WITH_LITTLE(wz_settle(&engine), lent(&engine) == 4 * sizeof given);
+    WITH_LITTLE(wz_give(&bytes, NULL, 0), !bytes.full);
+    WITHOUT(wz_take_outcome(&engine, 0, &requests[0], sizeof got, &bytes));
+    WITHOUT(wz_close(&engine));
+    WITHOUT(wz_copy_out(&bytes, got, sizeof got, &out));
+    HOLDS(out == sizeof got);
+}
+
 static void counted(void) {
     wz_engine engine = WZ_CLOSED_ENGINE;
     wz_limits limits = wz_greatest_limits(2);
@@ -166,6 +189,7 @@ int main(void) {
     sums(1);
     sums(600); /* long enough to be shared, not copied */
     counted();
+    outside();
     shim();
     HOLDS(refusals > 50);
     puts("memory: all as it should be");

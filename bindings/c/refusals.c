@@ -503,13 +503,13 @@ int main(int argc, char **argv) {
         return 0;
     }
     if (argc > 1 && strcmp(argv[1], "answers") == 0) {
-        for (int32_t code = -1; code <= WZ_NO_PLACE; code++)
+        for (int32_t code = -1; code <= WZ_HAS_BYTES; code++)
             printf("| %d | %s | %s | %s |\n", (int)code, wz_name(code), wz_message(code), wz_mpi_class(code));
         return 0;
     }
-    for (int32_t code = -1; code <= WZ_NO_PLACE; code++)
+    for (int32_t code = -1; code <= WZ_HAS_BYTES; code++)
         HOLDS(strlen(wz_message(code)) > 3 && strcmp(wz_name(code), "Unknown") != 0 && strncmp(wz_mpi_class(code), "MPI_", 4) == 0);
-    HOLDS(strcmp(wz_name(WZ_NO_PLACE + 1), "Unknown") == 0);
+    HOLDS(strcmp(wz_name(WZ_HAS_BYTES + 1), "Unknown") == 0);
     closed();
     configurations();
     posts();

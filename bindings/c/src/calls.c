@@ -61,7 +61,7 @@ static int32_t perform_made(struct caller caller, struct operation *operation, s
     operation->bytes = memory.given;
     operation->out = memory.out;
     operation->request = caller.request;
-    return perform(caller.shared, operation);
+    return caller.persistent ? perform(caller.shared, operation) : perform_giving(caller.shared, operation);
 }
 
 /* Posts a call, or makes it persistent. */

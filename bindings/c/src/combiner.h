@@ -30,6 +30,7 @@
 enum {
     MOST_COMMUNICATORS = 16,
     MOST_MEMBERS = 64,
+    MOST_BYTES = 16777216, /* that a member gives or gets */
     /* How often a wait that has the lock, and nothing to do, looks at the records before it gives the lock up. */
     LOOKS_UNDER_LOCK = 30,
     /* The most actions between two looks at the records: 20 to 60 microseconds. Collectives of eight ranks have 72 to
@@ -47,7 +48,7 @@ enum {
 #endif
 enum { TRIES = 16, IN_VAIN = 3 };
 
-/* Once a rank gives so many bytes, combinations are computed with the lock free. */
+/* Once a rank gives so many bytes, combinations are computed with the lock free, and its rows are copied so too. */
 #ifndef WZ_LONG
 #define WZ_LONG 4096
 #endif
@@ -82,7 +83,7 @@ struct wz_combiner;
 enum answered { ONCE, BEGINS, TESTS, WAITS };
 
 /* A call with its arguments, by the names that worzsunab.h gives them. Under the lock `apply` returns the call's
- * answer. */
+   answer. */
 struct operation {
     int32_t (*apply)(struct wz_combiner *combiner, struct operation *operation);
     enum answered answered;
@@ -103,7 +104,8 @@ struct operation {
     size_t passed; /* of a wait for all: so many parts at the front aren't pending any longer */
     void *out;
     size_t room;
-    size_t *count; /* or the index, or how many there were */
+    size_t *count;  /* or the index, or how many there were */
+    wz_bytes moved; /* a long row that was copied before it was published, or that is copied once it is answered */
 };
 
 /* ---- records */
@@ -207,8 +209,12 @@ void sleep_at(struct wz_combiner *combiner, struct record *me);
 /* Wakes each thread that sleeps and is due. */
 void wake_sleepers(struct wz_combiner *combiner);
 
-/* ---- operations.c: under the lock; what calls.c publishes too */
+/* ---- operations.c */
 
+/* A post or a start; copies a long row before it is published. */
+int32_t perform_giving(wz_shared *shared, struct operation *operation);
+
+/* Under the lock; what calls.c publishes too. */
 int32_t apply_post(struct wz_combiner *combiner, struct operation *operation);
 int32_t apply_post_allgatherv(struct wz_combiner *combiner, struct operation *operation);
 int32_t apply_init(struct wz_combiner *combiner, struct operation *operation);

@@ -17,15 +17,20 @@ static int32_t note_made(struct wz_combiner *combiner, const struct operation *o
 }
 
 int32_t apply_post(struct wz_combiner *combiner, struct operation *operation) {
-    int32_t code = wz_post(&combiner->engine, operation->rank, operation->comm, operation->call, operation->bytes,
-                           operation->length, operation->request);
+    int32_t code = operation->moved.full ? wz_post_given(&combiner->engine, operation->rank, operation->comm,
+                                                         operation->call, &operation->moved, operation->request)
+                                         : wz_post(&combiner->engine, operation->rank, operation->comm, operation->call,
+                                                   operation->bytes, operation->length, operation->request);
     return note_made(combiner, operation, code);
 }
 
 int32_t apply_post_allgatherv(struct wz_combiner *combiner, struct operation *operation) {
-    int32_t code =
-        wz_post_allgatherv(&combiner->engine, operation->rank, operation->comm, operation->type, operation->counts,
-                           operation->many, operation->bytes, operation->length, operation->request);
+    int32_t code = operation->moved.full ? wz_post_allgatherv_given(&combiner->engine, operation->rank, operation->comm,
+                                                                    operation->type, operation->counts, operation->many,
+                                                                    &operation->moved, operation->request)
+                                         : wz_post_allgatherv(&combiner->engine, operation->rank, operation->comm,
+                                                              operation->type, operation->counts, operation->many,
+                                                              operation->bytes, operation->length, operation->request);
     return note_made(combiner, operation, code);
 }
 
@@ -41,6 +46,8 @@ int32_t apply_init_allgatherv(struct wz_combiner *combiner, struct operation *op
 }
 
 static int32_t apply_start(struct wz_combiner *combiner, struct operation *operation) {
+    if (operation->moved.full)
+        return wz_start_given(&combiner->engine, operation->rank, operation->named, &operation->moved);
     return wz_start(&combiner->engine, operation->rank, operation->named, operation->bytes, operation->length);
 }
 
@@ -63,6 +70,15 @@ static int32_t apply_free(struct wz_combiner *combiner, struct operation *operat
 
 /* ---- posts and starts */
 
+/* Where memory is short, the row is copied under the lock, and the call answers for that. */
+int32_t perform_giving(wz_shared *shared, struct operation *operation) {
+    if (operation->length >= WZ_LONG && operation->length <= MOST_BYTES)
+        wz_give(&operation->moved, operation->bytes, operation->length);
+    int32_t code = perform(shared, operation);
+    if (operation->moved.full) wz_drop_bytes(&operation->moved);
+    return code;
+}
+
 int32_t wz_shared_post(wz_shared *shared, uint8_t rank, uint32_t comm, const wz_call *call, const void *bytes,
                        size_t length, wz_request *request) {
     struct operation operation = operation_of(BEGINS, rank, apply_post);
@@ -71,7 +87,7 @@ int32_t wz_shared_post(wz_shared *shared, uint8_t rank, uint32_t comm, const wz_
     operation.bytes = bytes;
     operation.length = length;
     operation.request = request;
-    return perform(shared, &operation);
+    return perform_giving(shared, &operation);
 }
 
 int32_t wz_shared_post_allgatherv(wz_shared *shared, uint8_t rank, uint32_t comm, uint8_t type, const uint32_t *counts,
@@ -84,7 +100,7 @@ int32_t wz_shared_post_allgatherv(wz_shared *shared, uint8_t rank, uint32_t comm
     operation.bytes = bytes;
     operation.length = length;
     operation.request = request;
-    return perform(shared, &operation);
+    return perform_giving(shared, &operation);
 }
 
 int32_t wz_shared_init(wz_shared *shared, uint8_t rank, uint32_t comm, const wz_call *call, wz_request *request) {
@@ -111,7 +127,7 @@ int32_t wz_shared_start(wz_shared *shared, uint8_t rank, const wz_request *reque
     operation.named = request;
     operation.bytes = bytes;
     operation.length = length;
-    return perform(shared, &operation);
+    return perform_giving(shared, &operation);
 }
 
 int32_t wz_shared_start_all(wz_shared *shared, uint8_t rank, const wz_part *parts, size_t many, const void *given,
@@ -135,6 +151,9 @@ int32_t wz_shared_free(wz_shared *shared, uint8_t rank, wz_request *request) {
 /* ---- tests and waits, under the lock */
 
 int32_t apply_test(struct wz_combiner *combiner, struct operation *operation) {
+    if (operation->moved.full)
+        return wz_take_outcome(&combiner->engine, operation->rank, operation->request, operation->room,
+                               &operation->moved);
     return wz_test(&combiner->engine, operation->rank, operation->request, operation->out, operation->room,
                    operation->count);
 }
@@ -190,7 +209,13 @@ static int32_t complete(wz_shared *shared, enum answered answered, uint8_t rank,
     operation.out = out;
     operation.room = room;
     operation.count = count;
-    return perform(shared, &operation);
+    /* Without memory for that, the outcome is copied under the lock. */
+    if (room >= WZ_LONG) wz_give(&operation.moved, NULL, 0);
+    int32_t code = perform(shared, &operation);
+    if (!operation.moved.full) return code;
+    if (code == WZ_DONE) return wz_copy_out(&operation.moved, out, room, count);
+    wz_drop_bytes(&operation.moved);
+    return code;
 }
 
 /* *found is the index, or how many were completed. */

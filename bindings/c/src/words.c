@@ -42,6 +42,8 @@ const char *wz_message(int32_t code) {
     case WZ_HAS_WORK: return "there is a combination already";
     case WZ_TWICE: return "a request stands twice in the list";
     case WZ_NO_PLACE: return "no member has posted so much on the communicator";
+    case WZ_NO_BYTES: return "there are no bytes";
+    case WZ_HAS_BYTES: return "there are bytes already";
     default: return "no answer of this library";
     }
 }
@@ -52,9 +54,9 @@ const char *wz_name(int32_t code) {
                                          "PlacesUsed",  "StartsUsed", "Full",      "TraceFull",    "Stalled",
                                          "StillActive", "Torn",       "NoMemory",  "BadConfig",    "BadNumber",
                                          "Closed",      "Open",       "NoWork",    "HasWork",      "Twice",
-                                         "NoPlace" };
+                                         "NoPlace",     "NoBytes",    "HasBytes" };
     if (code == WZ_PENDING) return "Pending";
-    return code >= 0 && code <= WZ_NO_PLACE ? names[code] : "Unknown";
+    return code >= 0 && code <= WZ_HAS_BYTES ? names[code] : "Unknown";
 }
 
 /* tools/words: words */
@@ -122,7 +124,9 @@ const char *wz_mpi_class(int32_t code) {
     case WZ_OPEN:
     case WZ_NO_WORK:
     case WZ_HAS_WORK:
-    case WZ_NO_PLACE: return "MPI_ERR_ARG";
+    case WZ_NO_PLACE:
+    case WZ_NO_BYTES:
+    case WZ_HAS_BYTES: return "MPI_ERR_ARG";
     case WZ_NO_MEMORY: return "MPI_ERR_NO_MEM";
     case WZ_PLACES_USED:
     case WZ_STARTS_USED:

@@ -263,7 +263,8 @@ struct TwoFields {
 fn set_steps(arena: &mut Arena<TwoFields>, ticket: Ticket, steps: u32) -> Result<(), Refusal>
     ensures live { is_ok result ≡ names arena.old ticket }
     ensures err { OnErr result (arena.new ≡ arena.old) }
-    ensures written { OnOk result (ForSome (record_in arena.old ticket.slot) (λ counted. arena.new ≡ rewritten arena.old ticket.slot (record { steps = steps; bytes = counted.bytes }))) }
+    ensures written { OnOk result
+        (ForSome (record_in arena.old ticket.slot) (λ counted. arena.new ≡ rewritten arena.old ticket.slot (record { steps = steps; bytes = counted.bytes }))) }
 {
     arena.get_mut(ticket)?.steps = steps;
     Ok(())

@@ -1,7 +1,9 @@
 -- A refusal's number as a code of 32 bits.
 use Rattle.std.proofs.Common.{◌≡◌, ◌∙◌, ℤ, pos, ap, refl, w32, to_z, of_z}
 use Rattle.coll_kinds.specs.declared.refusal.Refusal.{Refusal}
-use Rattle.coll_kinds.specs.declared.refusal.Refusal.TheVariants.{BadComm, NotMember, BadSignature, BadLength, Mismatch, Stale, NotYours, Active, NotPersistent, PlacesUsed, StartsUsed, Full, TraceFull, Stalled, StillActive, Torn, NoMemory, BadConfig}
+use Rattle.coll_kinds.specs.declared.refusal.Refusal.TheVariants.{BadComm, NotMember, BadSignature, BadLength, Mismatch, Stale, NotYours, Active}
+use Rattle.coll_kinds.specs.declared.refusal.Refusal.TheVariants.{NotPersistent, PlacesUsed, StartsUsed, Full, TraceFull, Stalled, StillActive, Torn}
+use Rattle.coll_kinds.specs.declared.refusal.Refusal.TheVariants.{NoMemory, BadConfig}
 use Rattle.coll_kinds.specs.Refusals.{number_of}
 
 kept : (why : Refusal) → to_z w32 (of_z w32 (pos (number_of why))) ≡ pos (number_of why)

@@ -9,7 +9,8 @@ pub use base.Logic.{SProp, ent, emp, never, id⊢, fst∗}
 pub use base.Fml.{ftrue, fsep, flft}
 pub use prog.Wp.{WpFn}
 pub use types.Logic.{sem}
-pub use types.Kit.{Item, ‵, raw, ◌⊛◌, some, later, at_ret, ◌$◌, ◌∵◌, !, qed, by, move, keep, drop, split, split3, join, fsplit, fjoin, fpick, fpack, pick, suffices, use0, use1, await, rewrite, feq_i, feq_l, done}
+pub use types.Kit.{Item, ‵, raw, ◌⊛◌, some, later, at_ret, ◌$◌, ◌∵◌, !, qed, by, move, keep, drop, split, split3, join, fsplit, fjoin, fpick, fpack}
+pub use types.Kit.{pick, suffices, use0, use1, await, rewrite, feq_i, feq_l, done}
 pub use types.Run.{stop, fld, of_opd, no_more, and_then, first, blocks, exec, returns, enter}
 pub use types.ByLocal.{alloc_all, pass_all, free_all, look_at, get, get_in, sets, lands_as, lands_last, env}
 pub use types.Part.{agg, sub, whole}

@@ -1,8 +1,9 @@
 -- Collectives as C gives them.
-use Rattle.std.specs.Prelude.{◌≡◌, ◌-◌, ◌++◌, ℕ, List, length, replicate, Option, Some, None}
+use Rattle.std.specs.Prelude.{◌≡◌, ◌<◌, ◌≤◌, ◌-◌, ◌++◌, ℕ, List, length, replicate, Option, Some, None}
 use Rattle.coll_kinds.specs.declared.datatype.Datatype.{Datatype}
 use Rattle.coll_kinds.specs.declared.kind.Kind.{Kind}
-use Rattle.coll_kinds.specs.declared.kind.Kind.TheVariants.{Barrier, Bcast, Gather, Scatter, Allgather, Allgatherv, Alltoall, Reduce, Allreduce, Rsblock, Scan, Exscan}
+use Rattle.coll_kinds.specs.declared.kind.Kind.TheVariants.{Barrier, Bcast, Gather, Scatter, Allgather, Allgatherv, Alltoall, Reduce, Allreduce}
+use Rattle.coll_kinds.specs.declared.kind.Kind.TheVariants.{Rsblock, Scan, Exscan}
 use Rattle.coll_kinds.specs.declared.kind.Mode.{Mode}
 use Rattle.coll_kinds.specs.declared.operation.Op.{Op}
 use Rattle.coll_kinds.specs.declared.operation.Op.TheVariants.{Max, Min, Sum, Prod, Land, Lor, Lxor, Band, Bor, Bxor, LastNz, MaxLoc, MinLoc}
@@ -49,6 +50,17 @@ datatype_number ty = sameness.datatype_number ty
 abbrev pub call_of : Kind → Option Op → Datatype → ℕ → ℕ → Call
 call_of kind op ty root count =
     record { kind = kind_number kind; op = operation_number op; ty = datatype_number ty; root = root; count = count }
+
+-- the numbers name a collective that has no counts, an operation or none, and a type
+pub record AreNames (call : Call) : Type 0 where
+  pub kind_is : call.kind < 11
+  pub op_is : call.op < 14
+  pub type_is : call.ty < 10
+
+-- the number names a type, and there are no more counts than a communicator may have members
+pub record AreCounts (ty : ℕ) (counts : List ℕ) : Type 0 where
+  pub type_is : ty < 10
+  pub few : length counts ≤ 64
 
 -- the signature is the one that the call names
 pub record IsCall (call : Call) (mode : Mode) (sig : Signature) : Type 0 where

@@ -1,11 +1,13 @@
 pub mod Owning
 pub mod OwningWork
+pub mod OwningBytes
 pub mod Calls
 pub mod Reasons
 pub mod Forms
 pub mod Beginnings
 pub mod Answers
 pub mod Works
+pub mod Givings
 pub mod Listing
 pub mod Posted
 pub mod Openings

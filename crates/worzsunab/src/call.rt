@@ -1,7 +1,7 @@
 //! Collectives as C gives them.
 
-ghost use Rattle.std.specs.Prelude.{◌≡◌, ◌≤◌, IfNone, IfSome, length};
-ghost use Rattle.worzsunab.specs.Calls.{IsCall, IsCounted, call_of, datatype_number, kind_number, operation_number, padded};
+ghost use Rattle.std.specs.Prelude.{◌≡◌, ◌≤◌, ◌<◌, ◌↔◌, IfNone, IfSome, IsTrue, is_some, length};
+ghost use Rattle.worzsunab.specs.Calls.{AreCounts, AreNames, IsCall, IsCounted, call_of, datatype_number, kind_number, operation_number, padded};
 
 use coll_kinds::{Datatype, Kind, MAX_RANKS, Mode, Op, Signature};
 
@@ -20,7 +20,8 @@ pub struct Call {
 impl Call {
     /// The signature; none where a number names nothing, or an allgatherv, since a call has no counts.
     pub fn signature(&self, mode: Mode) -> Option<Signature>
-        ensures { IfSome result (IsCall self.now mode) }
+        ensures is { IfSome result (IsCall self.now mode) }
+        ensures named { IsTrue (is_some result) ↔ AreNames self.now }
     {
         let kind = kind_of(self.kind)?;
         if kind.has_counts() {
@@ -54,7 +55,8 @@ impl Call {
 /// The signature of an allgatherv whose members give as many elements as is listed; those after the list give none. None
 /// where the type's number names nothing, or there are more counts than ranks may be.
 pub fn counted_signature(ty: u8, counts: &[u32], mode: Mode) -> Option<Signature>
-    ensures { IfSome result (IsCounted ty counts.now mode) }
+    ensures is { IfSome result (IsCounted ty counts.now mode) }
+    ensures named { IsTrue (is_some result) ↔ AreCounts ty counts.now }
 {
     let ty = datatype_of(ty)?;
     let once = Signature::allgatherv(ty, counts_of(counts)?);
@@ -66,7 +68,8 @@ pub fn counted_signature(ty: u8, counts: &[u32], mode: Mode) -> Option<Signature
 
 /// The counts, and 0 after the last; none where there are more than ranks may be.
 fn counts_of(counts: &[u32]) -> Option<[u32; MAX_RANKS]>
-    ensures { IfSome result (λ each. (length counts.now ≤ 64) × (each ≡ padded counts.now)) }
+    ensures is { IfSome result (λ each. each ≡ padded counts.now) }
+    ensures few { IsTrue (is_some result) ↔ (length counts.now ≤ 64) }
 {
     if counts.len() > MAX_RANKS {
         return None;
@@ -77,7 +80,8 @@ fn counts_of(counts: &[u32]) -> Option<[u32; MAX_RANKS]>
 }
 
 fn kind_of(number: u8) -> Option<Kind>
-    ensures { IfSome result (λ kind. kind_number kind ≡ number) }
+    ensures is { IfSome result (λ kind. kind_number kind ≡ number) }
+    ensures named { IsTrue (is_some result) ↔ (number < 12) }
 {
     match number {
         0 => Some(Kind::Barrier),
@@ -117,7 +121,8 @@ fn kind_number(kind: Kind) -> u8
 
 /// No operation has the number 0; none for a number that names nothing.
 fn operation_of(number: u8) -> Option<Option<Op>>
-    ensures { IfSome result (λ op. operation_number op ≡ number) }
+    ensures is { IfSome result (λ op. operation_number op ≡ number) }
+    ensures named { IsTrue (is_some result) ↔ (number < 14) }
 {
     match number {
         0 => Some(None),
@@ -160,7 +165,8 @@ fn operation_number(op: Option<Op>) -> u8
 }
 
 fn datatype_of(number: u8) -> Option<Datatype>
-    ensures { IfSome result (λ ty. datatype_number ty ≡ number) }
+    ensures is { IfSome result (λ ty. datatype_number ty ≡ number) }
+    ensures named { IsTrue (is_some result) ↔ (number < 10) }
 {
     match number {
         0 => Some(Datatype::I8),

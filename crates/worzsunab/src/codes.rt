@@ -5,6 +5,9 @@ pub const DONE: i32 = 0;
 /// The request isn't Done.
 pub const PENDING: i32 = -1;
 
+/// The memory has room for fewer bytes.
+pub const BAD_LENGTH: i32 = 4;
+
 /// Memory was refused.
 pub const NO_MEMORY: i32 = 17;
 
@@ -28,3 +31,9 @@ pub const TWICE: i32 = 24;
 
 /// No member has posted so much, or there is no such communicator.
 pub const NO_PLACE: i32 = 25;
+
+/// The handle has no bytes.
+pub const NO_BYTES: i32 = 26;
+
+/// The handle has bytes already.
+pub const HAS_BYTES: i32 = 27;

@@ -6,12 +6,14 @@
 //! | `held` | `Held`, the pointer to an engine, and to none |
 //! | `handle` | `Handle`, what C holds of an engine |
 //! | `held_work`, `work_handle` | the same of a combination that is computed outside |
+//! | `held_bytes`, `bytes_handle` | the same of bytes that are copied outside |
 //! | `call` | `Call`, a collective as C gives it, and the counts of an allgatherv |
 //! | `forms` | requests and configurations as C gives them |
 //! | `reason` | `Reason`, a refusal with its data |
 //! | `codes` | what functions answer |
 //! | `posting` | the functions that post and initialise |
 //! | `working` | the functions over combinations |
+//! | `giving` | the functions over bytes that are copied outside |
 //! | `listing` | the functions over lists of requests |
 //! | `posted` | `Posted`, what stands in a place of posting lists |
 //! | `lib` | the other functions |
@@ -37,11 +39,14 @@ ghost use Rattle.coll_serial.specs.Signatures.{signature_at};
 ghost use Rattle.worzsunab.specs.Posted.{Tells};
 ghost use Rattle.worzsunab.specs.Reasons.{no_reason, reason_of};
 
+mod bytes_handle;
 mod call;
 mod codes;
 mod forms;
+mod giving;
 mod handle;
 mod held;
+mod held_bytes;
 mod held_work;
 mod listing;
 mod parts;
@@ -120,7 +125,8 @@ pub extern "C" fn wz_start(
     request: &Request,
     bytes: &[u8],
 ) -> i32
-    ensures answers { Answers handle.old.held.engine handle.new.held.engine handle.old.reason handle.new.reason result (Unit {0}) (λ p. DeniesStart (setting p) rank (seen p) (named_by request.now, bytes.now)) (λ p r. StartsOne p r rank (named_by request.now) bytes.now) }
+    ensures answers { Answers handle.old.held.engine handle.new.held.engine handle.old.reason handle.new.reason result (Unit {0})
+        (λ p. DeniesStart (setting p) rank (seen p) (named_by request.now, bytes.now)) (λ p r. StartsOne p r rank (named_by request.now) bytes.now) }
 {
     let Some(mut engine) = handle.take(alloc) else {
         return CLOSED;
@@ -140,7 +146,9 @@ pub extern "C" fn wz_free(
     rank: u8,
     request: &mut Request,
 ) -> i32
-    ensures answers { Answers handle.old.held.engine handle.new.held.engine handle.old.reason handle.new.reason result (request.new ≡ request.old) (λ p why. free_refusal (setting p) (seen p).state rank (named_by request.old) ≡ Some why) (λ p r. Runs (setting p) (seen p) (freeing rank (named_by request.old)) (seen r) × (request.new ≡ request_of None)) }
+    ensures answers { Answers handle.old.held.engine handle.new.held.engine handle.old.reason handle.new.reason result
+        (request.new ≡ request.old) (λ p why. free_refusal (setting p) (seen p).state rank (named_by request.old) ≡ Some why)
+        (λ p r. Runs (setting p) (seen p) (freeing rank (named_by request.old)) (seen r) × (request.new ≡ request_of None)) }
 {
     let Some(mut engine) = handle.take(alloc) else {
         return CLOSED;
@@ -166,7 +174,8 @@ pub extern "C" fn wz_test(
     out: &mut [u8],
     count: &mut usize,
 ) -> i32
-    ensures tests { Tests handle.old.held.engine handle.new.held.engine handle.old.reason handle.new.reason result rank request.old request.new out.old out.new count.old count.new }
+    ensures tests { Tests handle.old.held.engine handle.new.held.engine handle.old.reason handle.new.reason result rank
+        request.old request.new out.old out.new count.old count.new }
 {
     let Some(mut engine) = handle.take(alloc) else {
         return CLOSED;
@@ -200,7 +209,9 @@ pub extern "C" fn wz_phase(
     request: &Request,
     phase: &mut u8,
 ) -> i32
-    ensures answers { Answers handle.old.held.engine handle.new.held.engine handle.old.reason handle.new.reason result (phase.new ≡ phase.old) (λ p why. naming_refusal (setting p) (seen p).state rank (named_by request.now) ≡ Some why) (λ p r. (r ≡ p) × IsPhase (phase_at (seen p) (named_by request.now)) phase.new) }
+    ensures answers { Answers handle.old.held.engine handle.new.held.engine handle.old.reason handle.new.reason result
+        (phase.new ≡ phase.old) (λ p why. naming_refusal (setting p) (seen p).state rank (named_by request.now) ≡ Some why)
+        (λ p r. (r ≡ p) × IsPhase (phase_at (seen p) (named_by request.now)) phase.new) }
 {
     let Some(engine) = handle.take(alloc) else {
         return CLOSED;
@@ -234,7 +245,9 @@ pub extern "C" fn wz_outcome_length(
     request: &Request,
     bytes: &mut usize,
 ) -> i32
-    ensures answers { Answers handle.old.held.engine handle.new.held.engine handle.old.reason handle.new.reason result (bytes.new ≡ bytes.old) (λ p why. naming_refusal (setting p) (seen p).state rank (named_by request.now) ≡ Some why) (λ p r. (r ≡ p) × IsOutcomeLengthAt (setting p) (seen p).state (named_by request.now) bytes.new) }
+    ensures answers { Answers handle.old.held.engine handle.new.held.engine handle.old.reason handle.new.reason result
+        (bytes.new ≡ bytes.old) (λ p why. naming_refusal (setting p) (seen p).state rank (named_by request.now) ≡ Some why)
+        (λ p r. (r ≡ p) × IsOutcomeLengthAt (setting p) (seen p).state (named_by request.now) bytes.new) }
 {
     let Some(engine) = handle.take(alloc) else {
         return CLOSED;
@@ -260,8 +273,10 @@ pub extern "C" fn wz_step(alloc: Global, handle: &mut Handle, budget: u32, actio
     ensures same_reason { result ≢ pos 17 → handle.new.reason ≡ handle.old.reason }
     ensures kept { result ≢ pos 0 → actions.new ≡ actions.old }
     ensures quiet { (result ≡ pos 17) ⊎ IfSome handle.new.held.engine (λ r. actions.new < budget → ready r ≡ []) }
-    ensures steps { (result ≡ pos 17) ⊎ IfSome handle.old.held.engine (λ p. IfSome handle.new.held.engine (λ r. Advances p r actions.new × (actions.new ≤ budget))) }
-    ensures finishes { IfSome handle.old.held.engine (λ p. IfSome handle.new.held.engine (λ r. (setting r ≡ setting p) × Finishings (setting p) (seen p) (seen r))) }
+    ensures steps { (result ≡ pos 17)
+        ⊎ IfSome handle.old.held.engine (λ p. IfSome handle.new.held.engine (λ r. Advances p r actions.new × (actions.new ≤ budget))) }
+    ensures finishes { IfSome handle.old.held.engine
+        (λ p. IfSome handle.new.held.engine (λ r. (setting r ≡ setting p) × Finishings (setting p) (seen p) (seen r))) }
 {
     let Some(mut engine) = handle.take(alloc) else {
         return CLOSED;
@@ -286,7 +301,8 @@ pub extern "C" fn wz_settle(alloc: Global, handle: &mut Handle) -> i32
     ensures noted { result ≡ pos 17 → handle.new.reason ≡ reason_of NoMemory }
     ensures same_reason { result ≢ pos 17 → handle.new.reason ≡ handle.old.reason }
     ensures quiet { (result ≡ pos 17) ⊎ IfSome handle.new.held.engine (λ r. ready r ≡ []) }
-    ensures settles { IfSome handle.old.held.engine (λ p. IfSome handle.new.held.engine (λ r. (setting r ≡ setting p) × Finishings (setting p) (seen p) (seen r))) }
+    ensures settles { IfSome handle.old.held.engine
+        (λ p. IfSome handle.new.held.engine (λ r. (setting r ≡ setting p) × Finishings (setting p) (seen p) (seen r))) }
 {
     let Some(mut engine) = handle.take(alloc) else {
         return CLOSED;
@@ -301,7 +317,8 @@ pub extern "C" fn wz_settle(alloc: Global, handle: &mut Handle) -> i32
 
 #[unsafe(no_mangle)]
 pub extern "C" fn wz_lent(alloc: Global, handle: &mut Handle, bytes: &mut u64) -> i32
-    ensures answers { Answers handle.old.held.engine handle.new.held.engine handle.old.reason handle.new.reason result (bytes.new ≡ bytes.old) (λ p why. ⊥) (λ p r. (r ≡ p) × (bytes.new ≡ lent_bytes (setting p) (seen p).state)) }
+    ensures answers { Answers handle.old.held.engine handle.new.held.engine handle.old.reason handle.new.reason result
+        (bytes.new ≡ bytes.old) (λ p why. ⊥) (λ p r. (r ≡ p) × (bytes.new ≡ lent_bytes (setting p) (seen p).state)) }
 {
     let Some(engine) = handle.take(alloc) else {
         return CLOSED;
@@ -318,7 +335,9 @@ pub extern "C" fn wz_about(
     request: &Request,
     about: &mut About,
 ) -> i32
-    ensures answers { Answers handle.old.held.engine handle.new.held.engine handle.old.reason handle.new.reason result (about.new ≡ about.old) (λ p why. (why ≡ Stale) × (about_at (seen p) (named_by request.now) ≡ None)) (λ p r. (r ≡ p) × IsAbout (about_at (seen p) (named_by request.now)) about.new) }
+    ensures answers { Answers handle.old.held.engine handle.new.held.engine handle.old.reason handle.new.reason result
+        (about.new ≡ about.old) (λ p why. (why ≡ Stale) × (about_at (seen p) (named_by request.now) ≡ None))
+        (λ p r. (r ≡ p) × IsAbout (about_at (seen p) (named_by request.now)) about.new) }
 {
     let Some(engine) = handle.take(alloc) else {
         return CLOSED;

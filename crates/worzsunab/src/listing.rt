@@ -25,7 +25,10 @@ pub extern "C" fn wz_test_any(
     out: &mut [u8],
     index: &mut usize,
 ) -> i32
-    ensures tests { ListTests handle.old.held.engine handle.new.held.engine handle.old.reason handle.new.reason result rank parts.old (length out.old) ((parts.new ≡ parts.old) × (out.new ≡ out.old) × (index.new ≡ index.old)) (NoneIsDone rank parts.old) (λ p r. NoneIsActive p r parts.old parts.new out.old out.new index.new ⊎ CompletesLowest rank p r parts.old parts.new out.old out.new index.new) }
+    ensures tests { ListTests handle.old.held.engine handle.new.held.engine handle.old.reason handle.new.reason result rank
+        parts.old (length out.old) ((parts.new ≡ parts.old) × (out.new ≡ out.old) × (index.new ≡ index.old))
+        (NoneIsDone rank parts.old)
+        (λ p r. NoneIsActive p r parts.old parts.new out.old out.new index.new ⊎ CompletesLowest rank p r parts.old parts.new out.old out.new index.new) }
 {
     let Some(mut engine) = handle.take(alloc) else {
         return CLOSED;
@@ -58,7 +61,9 @@ pub extern "C" fn wz_test_some(
     out: &mut [u8],
     completed: &mut usize,
 ) -> i32
-    ensures tests { ListTests handle.old.held.engine handle.new.held.engine handle.old.reason handle.new.reason result rank parts.old (length out.old) ((parts.new ≡ parts.old) × (out.new ≡ out.old) × (completed.new ≡ completed.old)) (λ p. ⊥) (λ p r. NoneIsActive p r parts.old parts.new out.old out.new completed.new ⊎ CompletesSome rank p r parts.old parts.new out.old out.new completed.new) }
+    ensures tests { ListTests handle.old.held.engine handle.new.held.engine handle.old.reason handle.new.reason result rank
+        parts.old (length out.old) ((parts.new ≡ parts.old) × (out.new ≡ out.old) × (completed.new ≡ completed.old)) (λ p. ⊥)
+        (λ p r. NoneIsActive p r parts.old parts.new out.old out.new completed.new ⊎ CompletesSome rank p r parts.old parts.new out.old out.new completed.new) }
 {
     if !are_distinct(parts) {
         return TWICE;
@@ -91,7 +96,9 @@ pub extern "C" fn wz_test_all(
     parts: &mut [Part],
     out: &mut [u8],
 ) -> i32
-    ensures tests { ListTests handle.old.held.engine handle.new.held.engine handle.old.reason handle.new.reason result rank parts.old (length out.old) ((parts.new ≡ parts.old) × (out.new ≡ out.old)) (λ p. list_any (is_pending (seen p)) (tickets_of parts.old) ≡ true) (λ p r. CompletesAll rank p r parts.old parts.new out.old out.new) }
+    ensures tests { ListTests handle.old.held.engine handle.new.held.engine handle.old.reason handle.new.reason result rank
+        parts.old (length out.old) ((parts.new ≡ parts.old) × (out.new ≡ out.old))
+        (λ p. list_any (is_pending (seen p)) (tickets_of parts.old) ≡ true) (λ p r. CompletesAll rank p r parts.old parts.new out.old out.new) }
 {
     if !are_distinct(parts) {
         return TWICE;
@@ -117,7 +124,8 @@ pub extern "C" fn wz_start_all(
     given: &[u8],
     started: &mut usize,
 ) -> i32
-    ensures starts { Starts handle.old.held.engine handle.new.held.engine handle.old.reason handle.new.reason result rank parts.now given.now started.old started.new }
+    ensures starts { Starts handle.old.held.engine handle.new.held.engine handle.old.reason handle.new.reason result rank
+        parts.now given.now started.old started.new }
 {
     let Some(mut engine) = handle.take(alloc) else {
         return CLOSED;

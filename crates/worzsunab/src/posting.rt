@@ -6,7 +6,7 @@ ghost use Rattle.coll_kinds.specs.declared.signature.Signature.{Signature};
 ghost use Rattle.coll_core.specs.Cores.{seen, setting};
 ghost use Rattle.coll_serial.specs.Calls.{Denies, init_by, post_by};
 ghost use Rattle.worzsunab.specs.Answers.{Answers};
-ghost use Rattle.worzsunab.specs.Calls.{IsCall, IsCounted};
+ghost use Rattle.worzsunab.specs.Calls.{AreCounts, AreNames, IsCall, IsCounted};
 ghost use Rattle.worzsunab.specs.Beginnings.{Inits, Posts};
 ghost use Rattle.worzsunab.specs.Forms.{IsMade};
 
@@ -27,8 +27,12 @@ pub extern "C" fn wz_post(
     bytes: &[u8],
     request: &mut Request,
 ) -> i32
-    ensures answers { (result ≡ pos 19) ⊎ (sig : Signature) × IsCall call.now Once sig × Answers handle.old.held.engine handle.new.held.engine handle.old.reason handle.new.reason result (request.new ≡ request.old) (λ p. Denies (setting p) (seen p) (post_by (setting p) rank comm sig bytes.now)) (λ p r. IsMade (Posts p r rank comm sig bytes.now) request.new) }
-    ensures unnamed { result ≡ pos 19 → (handle.new ≡ handle.old) × (request.new ≡ request.old) }
+    ensures answers { AreNames call.now
+        → (sig : Signature) × IsCall call.now Once sig
+        × Answers handle.old.held.engine handle.new.held.engine handle.old.reason handle.new.reason result
+        (request.new ≡ request.old) (λ p. Denies (setting p) (seen p) (post_by (setting p) rank comm sig bytes.now))
+        (λ p r. IsMade (Posts p r rank comm sig bytes.now) request.new) }
+    ensures unnamed { (AreNames call.now → ⊥) → (result ≡ pos 19) × (handle.new ≡ handle.old) × (request.new ≡ request.old) }
 {
     match call.signature(Mode::Once) {
         Some(sig) => post(alloc, handle, rank, comm, sig, bytes, request),
@@ -47,8 +51,12 @@ pub extern "C" fn wz_post_allgatherv(
     bytes: &[u8],
     request: &mut Request,
 ) -> i32
-    ensures answers { (result ≡ pos 19) ⊎ (sig : Signature) × IsCounted ty counts.now Once sig × Answers handle.old.held.engine handle.new.held.engine handle.old.reason handle.new.reason result (request.new ≡ request.old) (λ p. Denies (setting p) (seen p) (post_by (setting p) rank comm sig bytes.now)) (λ p r. IsMade (Posts p r rank comm sig bytes.now) request.new) }
-    ensures unnamed { result ≡ pos 19 → (handle.new ≡ handle.old) × (request.new ≡ request.old) }
+    ensures answers { AreCounts ty counts.now
+        → (sig : Signature) × IsCounted ty counts.now Once sig
+        × Answers handle.old.held.engine handle.new.held.engine handle.old.reason handle.new.reason result
+        (request.new ≡ request.old) (λ p. Denies (setting p) (seen p) (post_by (setting p) rank comm sig bytes.now))
+        (λ p r. IsMade (Posts p r rank comm sig bytes.now) request.new) }
+    ensures unnamed { (AreCounts ty counts.now → ⊥) → (result ≡ pos 19) × (handle.new ≡ handle.old) × (request.new ≡ request.old) }
 {
     match counted_signature(ty, counts, Mode::Once) {
         Some(sig) => post(alloc, handle, rank, comm, sig, bytes, request),
@@ -66,8 +74,9 @@ fn post(
     bytes: &[u8],
     request: &mut Request,
 ) -> i32
-    ensures answers { Answers handle.old.held.engine handle.new.held.engine handle.old.reason handle.new.reason result (request.new ≡ request.old) (λ p. Denies (setting p) (seen p) (post_by (setting p) rank comm sig bytes.now)) (λ p r. IsMade (Posts p r rank comm sig bytes.now) request.new) }
-    ensures named { result ≡ pos 19 → ⊥ }
+    ensures { Answers handle.old.held.engine handle.new.held.engine handle.old.reason handle.new.reason result
+        (request.new ≡ request.old) (λ p. Denies (setting p) (seen p) (post_by (setting p) rank comm sig bytes.now))
+        (λ p r. IsMade (Posts p r rank comm sig bytes.now) request.new) }
 {
     let Some(mut engine) = handle.take(alloc) else {
         return CLOSED;
@@ -92,8 +101,12 @@ pub extern "C" fn wz_init(
     call: &Call,
     request: &mut Request,
 ) -> i32
-    ensures answers { (result ≡ pos 19) ⊎ (sig : Signature) × IsCall call.now Persistent sig × Answers handle.old.held.engine handle.new.held.engine handle.old.reason handle.new.reason result (request.new ≡ request.old) (λ p. Denies (setting p) (seen p) (init_by (setting p) rank comm sig)) (λ p r. IsMade (Inits p r rank comm sig) request.new) }
-    ensures unnamed { result ≡ pos 19 → (handle.new ≡ handle.old) × (request.new ≡ request.old) }
+    ensures answers { AreNames call.now
+        → (sig : Signature) × IsCall call.now Persistent sig
+        × Answers handle.old.held.engine handle.new.held.engine handle.old.reason handle.new.reason result
+        (request.new ≡ request.old) (λ p. Denies (setting p) (seen p) (init_by (setting p) rank comm sig))
+        (λ p r. IsMade (Inits p r rank comm sig) request.new) }
+    ensures unnamed { (AreNames call.now → ⊥) → (result ≡ pos 19) × (handle.new ≡ handle.old) × (request.new ≡ request.old) }
 {
     match call.signature(Mode::Persistent) {
         Some(sig) => init(alloc, handle, rank, comm, sig, request),
@@ -111,8 +124,12 @@ pub extern "C" fn wz_init_allgatherv(
     counts: &[u32],
     request: &mut Request,
 ) -> i32
-    ensures answers { (result ≡ pos 19) ⊎ (sig : Signature) × IsCounted ty counts.now Persistent sig × Answers handle.old.held.engine handle.new.held.engine handle.old.reason handle.new.reason result (request.new ≡ request.old) (λ p. Denies (setting p) (seen p) (init_by (setting p) rank comm sig)) (λ p r. IsMade (Inits p r rank comm sig) request.new) }
-    ensures unnamed { result ≡ pos 19 → (handle.new ≡ handle.old) × (request.new ≡ request.old) }
+    ensures answers { AreCounts ty counts.now
+        → (sig : Signature) × IsCounted ty counts.now Persistent sig
+        × Answers handle.old.held.engine handle.new.held.engine handle.old.reason handle.new.reason result
+        (request.new ≡ request.old) (λ p. Denies (setting p) (seen p) (init_by (setting p) rank comm sig))
+        (λ p r. IsMade (Inits p r rank comm sig) request.new) }
+    ensures unnamed { (AreCounts ty counts.now → ⊥) → (result ≡ pos 19) × (handle.new ≡ handle.old) × (request.new ≡ request.old) }
 {
     match counted_signature(ty, counts, Mode::Persistent) {
         Some(sig) => init(alloc, handle, rank, comm, sig, request),
@@ -129,8 +146,9 @@ fn init(
     sig: Signature,
     request: &mut Request,
 ) -> i32
-    ensures answers { Answers handle.old.held.engine handle.new.held.engine handle.old.reason handle.new.reason result (request.new ≡ request.old) (λ p. Denies (setting p) (seen p) (init_by (setting p) rank comm sig)) (λ p r. IsMade (Inits p r rank comm sig) request.new) }
-    ensures named { result ≡ pos 19 → ⊥ }
+    ensures { Answers handle.old.held.engine handle.new.held.engine handle.old.reason handle.new.reason result
+        (request.new ≡ request.old) (λ p. Denies (setting p) (seen p) (init_by (setting p) rank comm sig))
+        (λ p r. IsMade (Inits p r rank comm sig) request.new) }
 {
     let Some(mut engine) = handle.take(alloc) else {
         return CLOSED;

@@ -1,9 +1,9 @@
 //! Combinations that are computed outside an engine, and outside its lock.
 
-ghost use Rattle.std.specs.Prelude.{◌≡◌, ◌≢◌, ◌⊎◌, [], None, Some, IfNone, IfOk, IfSome, IsOkUnless, IsSome, if◌then◌else◌, is_some, pos, true, false};
+ghost use Rattle.std.specs.Prelude.{◌≡◌, ◌≢◌, ◌⊎◌, [], None, Some, IfNone, IfOk, IfSome, IsOkUnless, IsSome, OnErr, if◌then◌else◌, is_some, pos, true, false};
 ghost use Rattle.coll_kinds.specs.declared.refusal.Refusal.TheVariants.{NoMemory, Stale};
 ghost use Rattle.coll_core.specs.Cores.{seen, setting};
-ghost use Rattle.coll_core.specs.Steps.{Finishings, ready};
+ghost use Rattle.coll_core.specs.Steps.{Finishings, ready, running};
 ghost use Rattle.coll_serial.specs.Combinations.{IsHandedOut, TakesBack};
 ghost use Rattle.worzsunab.specs.Answers.{Answers};
 ghost use Rattle.worzsunab.specs.Reasons.{reason_of};
@@ -19,7 +19,8 @@ use std::alloc::Global;
 pub extern "C" fn wz_take_work(alloc: Global, handle: &mut Handle, work: &mut WorkHandle) -> i32
     ensures full { is_some work.old.held.combination ≡ true → (result ≡ pos 23) × (work.new ≡ work.old) × (handle.new ≡ handle.old) }
     ensures closed { is_some work.old.held.combination ≡ false → handle.old.held.engine ≡ None → (result ≡ pos 20) × (handle.new.held.engine ≡ None) }
-    ensures out { result ≡ pos 0 → IfSome handle.new.held.engine (λ r. IfSome work.new.held.combination (IsHandedOut r)) × (is_some work.new.held.combination ≡ true) }
+    ensures out { result ≡ pos 0
+        → IfSome handle.new.held.engine (λ r. IfSome work.new.held.combination (IsHandedOut r)) × (is_some work.new.held.combination ≡ true) }
     ensures open { is_some work.old.held.combination ≡ false → IsSome handle.old.held.engine → (result ≡ pos 0) ⊎ (result ≡ pos 17) ⊎ (result ≡ pos 22) }
     // An engine that is open stays open, and the refusal that is noted is that of this call or the last one.
     ensures stays { IsSome handle.old.held.engine → IsSome handle.new.held.engine }
@@ -28,7 +29,10 @@ pub extern "C" fn wz_take_work(alloc: Global, handle: &mut Handle, work: &mut Wo
     ensures not_taken { result ≢ pos 0 → work.new.held.combination ≡ work.old.held.combination }
     ensures kept { (result ≡ pos 0) ⊎ (work.new.held.combination ≡ work.old.held.combination) }
     ensures quiet { result ≡ pos 22 → IfSome handle.new.held.engine (λ r. ready r ≡ []) × (work.new.held.combination ≡ None) }
-    ensures finishes { IfSome handle.old.held.engine (λ p. IfSome handle.new.held.engine (λ r. (setting r ≡ setting p) × Finishings (setting p) (seen p) (seen r))) }
+    // Where none is handed out, the same ones are outside as before.
+    ensures outside { result ≢ pos 0 → IfSome handle.old.held.engine (λ p. IfSome handle.new.held.engine (λ r. running r ≡ running p)) }
+    ensures finishes { IfSome handle.old.held.engine
+        (λ p. IfSome handle.new.held.engine (λ r. (setting r ≡ setting p) × Finishings (setting p) (seen p) (seen r))) }
 {
     if work.is_full() {
         return HAS_WORK;
@@ -48,25 +52,23 @@ pub extern "C" fn wz_take_work(alloc: Global, handle: &mut Handle, work: &mut Wo
     }
 }
 
-/// Hands a combination out in a box. Where there is no memory for that, it goes back.
+/// Hands a combination out in a box, which is made first, so that none is handed out without memory
+/// for it.
 fn hand_out(alloc: Global, engine: &mut Engine) -> Result<Option<Box<Combination>>, Refusal>
     ensures setting { setting engine.new ≡ setting engine.old }
     ensures finishes { Finishings (setting engine.old) (seen engine.old) (seen engine.new) }
     ensures out { IfOk result (λ found. IfSome found (λ boxed. IsHandedOut engine.new boxed.value)) }
-    ensures quiet { IfOk result (λ found. IfNone found (ready engine.new ≡ [])) }
+    ensures quiet { IfOk result (λ found. IfNone found ((ready engine.new ≡ []) × (running engine.new ≡ running engine.old))) }
+    ensures err { OnErr result (running engine.new ≡ running engine.old) }
     ensures refusal { IsOkUnless result Refusal.NoMemory }
 {
-    let Some(combination) = engine.hand_out()? else {
-        return Ok(None);
-    };
-    match Box::new(alloc, combination) {
-        Ok(boxed) => Ok(Some(boxed)),
-        Err(failed) => {
-            let Ok(()) = engine.take_back(failed.value) else {
-                unreachable!()
-            };
-            Err(Refusal::NoMemory)
+    let mut boxed = Box::new(alloc, Combination::none())?;
+    match engine.hand_out()? {
+        Some(combination) => {
+            *boxed.as_mut() = combination;
+            Ok(Some(boxed))
         }
+        None => Ok(None),
     }
 }
 
@@ -88,7 +90,9 @@ pub extern "C" fn wz_run_work(alloc: Global, work: &mut WorkHandle) -> i32
 #[unsafe(no_mangle)]
 pub extern "C" fn wz_return_work(alloc: Global, handle: &mut Handle, work: &mut WorkHandle) -> i32
     ensures empty { work.old.held.combination ≡ None → (result ≡ pos 22) × (handle.new ≡ handle.old) × (work.new ≡ work.old) }
-    ensures answers { IfSome work.old.held.combination (λ combination. Answers handle.old.held.engine handle.new.held.engine handle.old.reason handle.new.reason result (Unit {0}) (λ p why. why ≡ Stale) (λ p r. TakesBack p r combination)) }
+    ensures answers { IfSome work.old.held.combination
+        (λ combination. Answers handle.old.held.engine handle.new.held.engine handle.old.reason handle.new.reason result
+        (Unit {0}) (λ p why. why ≡ Stale) (λ p r. TakesBack p r combination)) }
     ensures work { (result ≡ pos 20) ⊎ (work.new.held.combination ≡ None) }
     ensures closed { result ≡ pos 20 → work.new.held.combination ≡ work.old.held.combination }
 {

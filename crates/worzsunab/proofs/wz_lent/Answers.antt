@@ -7,4 +7,8 @@ use Rattle.worzsunab.proofs.wz_lent.Goals as goal
 pub returns : goal.returns
 returns c =
     let p = c.in-Some.engine.value in
-    record { answers = done p p c.in-Some.ensures.found c.put.ensures.engine refl (c.put.ensures.reason ∙ c.take.ensures.reason) (refl, c.lent.ensures ∙ ap (λ (k : Parts). lent_bytes (setting k) (seen k).state) c.deref.ensures) refl }
+    record {
+      answers =
+          done p p c.in-Some.ensures.found c.put.ensures.engine refl (c.put.ensures.reason ∙ c.take.ensures.reason)
+          (refl, c.lent.ensures ∙ ap (λ (k : Parts). lent_bytes (setting k) (seen k).state) c.deref.ensures) refl;
+    }

@@ -8,12 +8,18 @@ use Rattle.worzsunab.proofs.wz_outcome_length.Goals as goal
 pub returns-in-Ok : goal.returns-in-Ok
 returns-in-Ok c =
     let p = c.in-Some.engine.value in
-    record { answers = done p p c.in-Some.ensures.found c.put.ensures.engine refl (c.put.ensures.reason ∙ c.take.ensures.reason) (refl, long c.deref.result.now p c.deref.ensures c.held.result (named_by c.args.request.now) c.in-Ok.len c.held.ensures c.in-Ok.ensures.len) refl }
+    record {
+      answers =
+          done p p c.in-Some.ensures.found c.put.ensures.engine refl (c.put.ensures.reason ∙ c.take.ensures.reason)
+          (refl, long c.deref.result.now p c.deref.ensures c.held.result (named_by c.args.request.now) c.in-Ok.len c.held.ensures c.in-Ok.ensures.len) refl;
+    }
 
 pub returns-in-Err : goal.returns-in-Err
 returns-in-Err c =
     let p = c.in-Some.engine.value in
     record {
-      answers = refused p p c.in-Err.why c.in-Some.ensures.found (c.refuse.ensures.engine ∙ c.put.ensures.engine) (same_as p p refl) c.refuse.ensures.reason refl
-          (not_named c.deref.result.now p c.deref.ensures c.args.rank c.held.result (named_by c.args.request.now) c.in-Err.why c.held.ensures c.in-Err.ensures.refused) (coded c.in-Err.why c.refuse.result c.refuse.ensures.code);
+      answers = refused p p c.in-Err.why c.in-Some.ensures.found (c.refuse.ensures.engine ∙ c.put.ensures.engine)
+          (same_as p p refl) c.refuse.ensures.reason refl
+          (not_named c.deref.result.now p c.deref.ensures c.args.rank c.held.result (named_by c.args.request.now) c.in-Err.why
+          c.held.ensures c.in-Err.ensures.refused) (coded c.in-Err.why c.refuse.result c.refuse.ensures.code);
     }

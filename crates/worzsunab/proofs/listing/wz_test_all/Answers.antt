@@ -16,7 +16,9 @@ returns-in-Ok-true c =
           c.put.ensures.engine c.in-Ok-true.ensures.setting (c.put.ensures.reason ∙ c.take.ensures.reason)
           (record {
             finished = not_of_true _ (sym c.in-Ok-true.field-0-test ∙ c.in-Ok-true.ensures.flag);
-            completes = on_true (CompletesParts (setting p) c.args.rank (seen p) (seen r) c.args.parts.now c.test_all-answer.new.parts c.args.out.now c.test_all-answer.new.out) c.in-Ok-true.field-0 c.in-Ok-true.field-0-test c.in-Ok-true.ensures.completes;
+            completes = on_true (CompletesParts (setting p) c.args.rank (seen p) (seen r) c.args.parts.now
+                c.test_all-answer.new.parts c.args.out.now c.test_all-answer.new.out) c.in-Ok-true.field-0
+                c.in-Ok-true.field-0-test c.in-Ok-true.ensures.completes;
           }) refl;
     }
 

@@ -1,5 +1,9 @@
 -- The parts of a box are what an open pointer owns.
-use Rattle.worzsunab.proofs.Words.{List, [], ◌∷◌, ◌++◌, Some, refl, sym, subst, Val, SProp, ent, emp, id⊢, ftrue, fsep, WpFn, ‵, raw, ◌⊛◌, ◌$◌, ◌∵◌, !, qed, move, drop, split, join, fsplit, fjoin, suffices, use1, done, stop, fld, of_opd, no_more, and_then, returns, enter, alloc_all, pass_all, free_all, look_at, get, get_in, sets, agg, sub, whole, tables, yes, type_at, nothing, says, Stays, stay_dropped, walk_of, ends_at, Goes-dropped, D, B, word, box_typed, box_out, box_in, proved_at}
+use Rattle.worzsunab.proofs.Words.{List, [], ◌∷◌, ◌++◌, Some, refl, sym, subst, Val, SProp, ent, emp, id⊢, ftrue, fsep, WpFn, ‵, raw, ◌⊛◌, ◌$◌, ◌∵◌}
+use Rattle.worzsunab.proofs.Words.{ !, qed, move, drop, split, join, fsplit, fjoin, suffices, use1, done, stop, fld, of_opd, no_more, and_then}
+use Rattle.worzsunab.proofs.Words.{returns, enter, alloc_all, pass_all, free_all, look_at, get, get_in, sets, agg, sub, whole, tables, yes, type_at}
+use Rattle.worzsunab.proofs.Words.{nothing, says, Stays, stay_dropped, walk_of, ends_at, Goes-dropped, D, B, word, box_typed, box_out, box_in}
+use Rattle.worzsunab.proofs.Words.{proved_at}
 use Rattle.worzsunab.proofs.Boxes.{Boxed, OfParts}
 use Rattle.worzsunab.specs.contracts.held.Held.of as f
 use Rattle.worzsunab.proofs.held.Held.of.Statement.{statement}
@@ -17,12 +21,15 @@ of_spec 𝓤 𝓛 𝓜 𝓡 wired =
     let v : D Boxed = record { ptr = z.0.3.0.at; alloc = z.0.3.0.alloc; value = z.0.3.0.value } in
     let made : To.Denot = record { at = v.ptr; alloc = v.alloc; engine = Some v.value } in
     qed 𝓛 ((‵ ftrue ⊛ ‵ (fsep ((B Boxed).own_val v z.0.4.0) ftrue)) ∷ raw (emp 𝓤) ∷ []) ∵ split ! $ drop ! $ fsplit ! $
-    box_out Boxed ! v z.0.4.0 (λ b o hv e ws fa. box_in Boxed ! v b o v.value e refl $ use1 𝓛 (‵ (To.own_val made (word Boxed hv b o ∷ []))) (id⊢ 𝓤 _) $ move ! (1 ∷ 2 ∷ []) $ drop ! $ drop ! $
+    box_out Boxed ! v z.0.4.0
+    (λ b o hv e ws fa. box_in Boxed ! v b o v.value e refl $ use1 𝓛 (‵ (To.own_val made (word Boxed hv b o ∷ []))) (id⊢ 𝓤 _)
+    $ move ! (1 ∷ 2 ∷ []) $ drop ! $ drop ! $
     let x = word Boxed hv b o in
     suffices ! (Run (x ∷ [])) (subst (λ (us : List Val). ent 𝓤 (Run (x ∷ [])) (Run us)) (sym (λ i. ws i ++ [])) (id⊢ 𝓤 (Run (x ∷ [])))) $
     enter ! 𝓣.C 𝓣.Λ code.function (x ∷ []) Post $ alloc_all ! (λ l. pass_all ! refl (box_typed Boxed hv b o fa, tt) $
     sets ! (of_opd ! (get_in ! (fld ! refl (stop !)) (sub ! 0 refl (whole !)))) refl (tt, tt) $
     sets ! (of_opd ! (get_in ! (fld ! refl (stop !)) (sub ! 1 refl (whole !)))) refl fa $ sets ! (of_opd ! (get ! refl)) refl (tt, tt) $
-    sets ! (agg ! (and_then ! (get ! refl) (and_then ! (get ! refl) (no_more !)))) refl (box_typed Boxed hv b o fa) $ returns ! (look_at ! 0 refl) $ free_all ! refl $
+    sets ! (agg ! (and_then ! (get ! refl) (and_then ! (get ! refl) (no_more !)))) refl (box_typed Boxed hv b o fa) $ returns !
+    (look_at ! 0 refl) $ free_all ! refl $
     suffices ! _ (ends_at 𝓛 f.ended stayed c z x made (tt, tt) (tt, tt)) $ says ! refl $
     nothing ! $ nothing ! $ fjoin ! $ join ! $ nothing ! $ join ! $ done !)))

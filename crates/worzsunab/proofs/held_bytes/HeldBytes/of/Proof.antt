@@ -1,0 +1,35 @@
+-- The parts of a box are what an open pointer owns.
+use Rattle.worzsunab.proofs.Words.{List, [], ◌∷◌, ◌++◌, Some, refl, sym, subst, Val, SProp, ent, emp, id⊢, ftrue, fsep, WpFn, ‵, raw, ◌⊛◌, ◌$◌, ◌∵◌}
+use Rattle.worzsunab.proofs.Words.{ !, qed, move, drop, split, join, fsplit, fjoin, suffices, use1, done, stop, fld, of_opd, no_more, and_then}
+use Rattle.worzsunab.proofs.Words.{returns, enter, alloc_all, pass_all, free_all, look_at, get, get_in, sets, agg, sub, whole, tables, yes, type_at}
+use Rattle.worzsunab.proofs.Words.{nothing, says, Stays, stay_dropped, walk_of, ends_at, Goes-dropped, D, B, word, box_typed, box_out, box_in}
+use Rattle.worzsunab.proofs.Words.{proved_at}
+use Rattle.worzsunab.proofs.Boxes.{BoxedBytes, OfBytesParts}
+use Rattle.worzsunab.specs.contracts.held_bytes.HeldBytes.of as f
+use Rattle.worzsunab.proofs.held_bytes.HeldBytes.of.Statement.{statement}
+use Rattle.worzsunab.proofs.held_bytes.HeldBytes.of.Code as code
+
+abbrev stayed : Stays f.ended.signature.params f.ended.kept
+stayed = (stay_dropped OfBytesParts yes, tt)
+
+pub of_spec : {M : Type 1} → statement M
+of_spec 𝓤 𝓛 𝓜 𝓡 wired =
+    let c = f.clauses 𝓛 𝓜.mem 𝓡.returns in let H = 𝓛.H in let 𝓣 = tables 𝓤 H 𝓜 𝓡 𝓡.env in
+    proved_at 𝓛 f.ended stayed c 𝓜 𝓡 (Goes-dropped 𝓛 0 OfBytesParts yes (λ κs x w. refl), tt) f.Key.name code.function (code.unfolded 𝓤 H 𝓜 𝓡 wired) (λ z are.
+    let Post : Val → SProp 𝓤 = (walk_of 𝓛 f.ended stayed c).post z in let Run : List Val → SProp 𝓤 = λ ws. WpFn 𝓤 H 𝓣.C 𝓣.Λ code.function ws Post in
+    let To = type_at f.signature.result tt in
+    let v : D BoxedBytes = record { ptr = z.0.3.0.at; alloc = z.0.3.0.alloc; value = z.0.3.0.value } in
+    let made : To.Denot = record { at = v.ptr; alloc = v.alloc; bytes = Some v.value } in
+    qed 𝓛 ((‵ ftrue ⊛ ‵ (fsep ((B BoxedBytes).own_val v z.0.4.0) ftrue)) ∷ raw (emp 𝓤) ∷ []) ∵ split ! $ drop ! $ fsplit ! $
+    box_out BoxedBytes ! v z.0.4.0
+    (λ b o hv e ws fa. box_in BoxedBytes ! v b o v.value e refl $ use1 𝓛 (‵ (To.own_val made (word BoxedBytes hv b o ∷ [])))
+    (id⊢ 𝓤 _) $ move ! (1 ∷ 2 ∷ []) $ drop ! $ drop ! $
+    let x = word BoxedBytes hv b o in
+    suffices ! (Run (x ∷ [])) (subst (λ (us : List Val). ent 𝓤 (Run (x ∷ [])) (Run us)) (sym (λ i. ws i ++ [])) (id⊢ 𝓤 (Run (x ∷ [])))) $
+    enter ! 𝓣.C 𝓣.Λ code.function (x ∷ []) Post $ alloc_all ! (λ l. pass_all ! refl (box_typed BoxedBytes hv b o fa, tt) $
+    sets ! (of_opd ! (get_in ! (fld ! refl (stop !)) (sub ! 0 refl (whole !)))) refl (tt, tt) $
+    sets ! (of_opd ! (get_in ! (fld ! refl (stop !)) (sub ! 1 refl (whole !)))) refl fa $ sets ! (of_opd ! (get ! refl)) refl (tt, tt) $
+    sets ! (agg ! (and_then ! (get ! refl) (and_then ! (get ! refl) (no_more !)))) refl (box_typed BoxedBytes hv b o fa) $
+    returns ! (look_at ! 0 refl) $ free_all ! refl $
+    suffices ! _ (ends_at 𝓛 f.ended stayed c z x made (tt, tt) (tt, tt)) $ says ! refl $
+    nothing ! $ nothing ! $ fjoin ! $ join ! $ nothing ! $ join ! $ done !)))
