@@ -94,12 +94,21 @@ def check_options(program, checks):
             if there == ["file"]:
                 with open(os.path.join(alone, "file"), encoding="utf-8") as file:
                     text = file.read()
-            is_same = text == texts[option] if option != "--timeline" else bool(text) and untimed(text) == untimed(texts[option])
+            same = {"--timeline": untimed, "--html": untimed_page}.get(option, str)
+            is_same = bool(text) and same(text) == same(texts[option])
             is_right = there == ["file"] and is_same and said == (0, printed, "")
             checks.one(f"{option} alone", is_right, (said, there, text[:200]))
             for name in there:
                 os.remove(os.path.join(alone, name))
             os.rmdir(alone)
+
+
+def untimed_page(text):
+    """A page with the events of its timeline as `untimed` has them."""
+    begin, _, rest = text.partition('id="data">')
+    data, _, end = rest.partition("</script>")
+    values = json.loads(data)
+    return begin, {**values, "timeline": untimed(values["timeline"])}, end
 
 
 def check_words(program, checks):
