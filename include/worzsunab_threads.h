@@ -40,7 +40,7 @@ int32_t wz_shared_close(wz_shared *shared);
    that begins, tests or waits afterwards counts again. */
 void wz_shared_leave(wz_shared *shared, uint8_t rank);
 
-/* ---- posts and starts. WZ_NO_MEMORY of the progress that a post or a start makes isn't answered: a wait meets it. */
+/* ---- posts and starts. WZ_NO_MEMORY of the progress that a post or a start makes isn't answered: a wait or a test meets it. */
 
 /* As wz_post and wz_post_allgatherv, with some progress. */
 int32_t wz_shared_post(wz_shared *shared, uint8_t rank, uint32_t comm, const wz_call *call, const void *bytes,
@@ -61,7 +61,8 @@ int32_t wz_shared_start_all(wz_shared *shared, uint8_t rank, const wz_part *part
 /* As wz_free. */
 int32_t wz_shared_free(wz_shared *shared, uint8_t rank, wz_request *request);
 
-/* ---- tests. They make some progress first, and may answer WZ_PENDING where more could be made. */
+/* ---- tests. They make some progress first, and may answer WZ_PENDING where more could be made; WZ_NO_MEMORY where
+   progress was refused memory: nothing is completed then. */
 
 /* As wz_test, wz_test_any, wz_test_some and wz_test_all. */
 int32_t wz_shared_test(wz_shared *shared, uint8_t rank, wz_request *request, void *out, size_t room, size_t *count);
