@@ -37,7 +37,7 @@ static struct session *find_session(MPI_Session handle, const char *call, int *c
 
 /* ---- beginning and ending */
 
-/* The level that the info asks for, which a rank has until it has neither a session nor MPI_Init; MPI_THREAD_SINGLE where it asks for none. */
+/* The level of threads that the info asks for; MPI_THREAD_SINGLE where it asks for none. */
 static int level_of(MPI_Info info) {
     char value[MPI_MAX_INFO_VAL + 1];
     int given = 0;
