@@ -18,7 +18,8 @@ void read_options(int argc, char **argv, struct options *options);
 /* Runs the program once for each seed, as a process of its own, until one ends badly. The status of that, or 0. */
 int run_seeds(int argc, char **argv, const struct options *options);
 
-/* Under --large-pages: executes wzrun anew with the settings of glibc's allocator that take them, where the user has set none and each rank has a processor. */
-void take_large_pages(char **argv, const struct options *options);
+/* Has glibc's allocator keep long blocks that were freed, unless the user has set it otherwise. Under --large-pages: executes wzrun anew with the settings that take large
+   pages, where the user has set none and each rank has a processor. */
+void set_allocator(char **argv, const struct options *options);
 
 #endif

@@ -182,7 +182,7 @@ int wz_main_(int argc, char **argv) {
     struct options options;
     read_options(argc, argv, &options);
     if (options.first_seed > 0) return run_seeds(argc, argv, &options);
-    take_large_pages(argv, &options);
+    set_allocator(argv, &options);
     int status = run_ranks(argc, argv, &options);
     flush_streams();
     go_back();

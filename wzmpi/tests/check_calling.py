@@ -73,6 +73,34 @@ int main(int argc, char **argv) {
 }
 """
 
+# A program that says how many pages of its process an allreduce of 512 KiB takes fresh from the system, after 40 whose rows it keeps.
+FAULTS = r"""#include <mpi.h>
+#include <stdio.h>
+#include <stdlib.h>
+#include <sys/resource.h>
+enum { MANY = 65536, TIMES = 20 };
+static long given[MANY], taken[MANY];
+static long faults(void) {
+    struct rusage usage;
+    MPI_Barrier(MPI_COMM_WORLD);
+    getrusage(RUSAGE_SELF, &usage);
+    return usage.ru_minflt;
+}
+int main(int argc, char **argv) {
+    int rank;
+    MPI_Init(&argc, &argv);
+    MPI_Comm_rank(MPI_COMM_WORLD, &rank);
+    for (int i = 0; i < 40; i++) MPI_Allreduce(given, malloc(sizeof given), MANY, MPI_LONG, MPI_SUM, MPI_COMM_WORLD);
+    for (int i = 0; i < TIMES; i++) MPI_Allreduce(given, taken, MANY, MPI_LONG, MPI_SUM, MPI_COMM_WORLD);
+    long before = faults();
+    for (int i = 0; i < TIMES; i++) MPI_Allreduce(given, taken, MANY, MPI_LONG, MPI_SUM, MPI_COMM_WORLD);
+    long after = faults();
+    if (rank == 0) printf("%ld\n", (after - before) / TIMES);
+    MPI_Finalize();
+    return 0;
+}
+"""
+
 
 def written(path, text):
     path.write_text(text)
@@ -122,6 +150,17 @@ def check_large_pages(binaries, folder):
         right = said == text if text is not None else said.startswith("large pages, none\n")
         failed += reported(status == 0 and right, f"wzrun {words}, {variables}: status {status}: {said}")
     return failed
+
+
+def check_kept_blocks(binaries, folder):
+    """Long blocks stay with the process, unless the user has set the allocator otherwise."""
+    program = str(compiled(binaries, written(folder / "faults.c", FAULTS), folder / "faults"))
+    environment = {name: it for name, it in os.environ.items() if name != "GLIBC_TUNABLES" and not name.startswith("MALLOC_")}
+    many = {}
+    for name, variables in (("own", {}), ("the user's", {"MALLOC_MMAP_THRESHOLD_": "131072"})):
+        status, said = run([str(binaries / "wzrun"), "-q", "-n", "2", program], env={**environment, **variables})
+        many[name] = int(said) if status == 0 and said.strip().isdigit() else -1
+    return reported(0 <= many["own"] < 60 and many["the user's"] > 100, f"fresh pages of an allreduce of 512 KiB: {many}")
 
 
 def check_colours(binaries, program):
@@ -202,7 +241,7 @@ def check(binaries, out):
     folder = out / "calling.d"
     folder.mkdir()
     program = str(compiled(binaries, written(folder / "given.c", GIVEN), folder / "given"))
-    failed = check_words(binaries, program) + check_large_pages(binaries, folder) + check_colours(binaries, program) + check_help(binaries)
+    failed = check_words(binaries, program) + check_large_pages(binaries, folder) + check_kept_blocks(binaries, folder) + check_colours(binaries, program) + check_help(binaries)
     failed += check_compilers(binaries, folder) + check_cmake(binaries, folder) + check_spaces(binaries, folder)
     print("check.py: the tools are called as mpirun and mpicc are" if failed == 0 else f"check.py: {failed} ways to call the tools failed")
     return failed

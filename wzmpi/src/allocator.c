@@ -1,6 +1,8 @@
-/* glibc's allocator on large pages. It reads its settings from the environment as a program begins, so wzrun executes itself anew with them. */
+/* glibc's allocator: it keeps long blocks that were freed, and on large pages under --large-pages. It reads settings for these from the environment as a program
+   begins, so wzrun executes itself anew with them. */
 #include "options.h"
 
+#include <malloc.h>
 #include <sched.h>
 #include <unistd.h>
 
@@ -26,9 +28,19 @@ static void tell_left(const char *why) {
     if (!the_run.quiet) fprintf(stderr, "wzrun: note: --large-pages: the allocator stays as it is, because %s\n", why);
 }
 
-void take_large_pages(char **argv, const struct options *options) {
+/* By itself it gives a freed block of 512 KiB back to the system, and each operation on such rows takes fresh pages, which the system clears. 32 MiB is the most that it
+   takes, and one setting alone changes nothing. What the user has set stays. */
+static void keep_long_blocks(void) {
+    static const char *const own[] = { tunables, "MALLOC_MMAP_THRESHOLD_", "MALLOC_TRIM_THRESHOLD_" };
+    for (size_t i = 0; i < sizeof own / sizeof own[0]; i++)
+        if (getenv(own[i]) != NULL) return;
+    mallopt(M_MMAP_THRESHOLD, 32 << 20);
+    mallopt(M_TRIM_THRESHOLD, 256 << 20);
+}
+
+static void take_large_pages(char **argv, const struct options *options) {
     char why[100];
-    if (has_settings() || !options->large_pages) return;
+    if (!options->large_pages) return;
     snprintf(why, sizeof why, "there are %d ranks on %d processors, and each rank takes up to 64 MiB", options->ranks, processors());
     if (getenv(tunables) != NULL) tell_left("GLIBC_TUNABLES is set");
     else if (options->ranks > processors()) tell_left(why);
@@ -37,4 +49,10 @@ void take_large_pages(char **argv, const struct options *options) {
         has_settings();
         tell_left("wzrun can't execute itself anew");
     }
+}
+
+void set_allocator(char **argv, const struct options *options) {
+    if (has_settings()) return;
+    take_large_pages(argv, options);
+    keep_long_blocks();
 }
