@@ -1,5 +1,5 @@
 -- What an export's call did, in the words of its answer.
-use Rattle.std.proofs.Common.{◌≡◌, ◌∙◌, ℕ, ℤ, List, Option, Some, None, true, false, refl, sym, ap, subst}
+use Rattle.std.proofs.Common.{◌≡◌, ◌∙◌, ◌++◌, ℕ, ℤ, List, drop, length, Option, Some, None, true, false, refl, sym, ap, subst}
 use Rattle.std.specs.Prelude.{IfSome, is_some}
 use Rattle.std.proofs.lemmas.Bool.{false≢true}
 use Rattle.coll_kinds.specs.declared.refusal.Refusal.{Refusal}
@@ -21,7 +21,7 @@ use Rattle.coll_core.specs.declared.outcome.Outcome.{Outcome}
 use Rattle.coll_serial.specs.declared.taken.Taken.{Taken}
 use Rattle.coll_serial.specs.declared.taken.Taken.TheVariants as taken
 use Rattle.coll_serial.specs.Tests.{IfTaken}
-use Rattle.coll_serial.specs.Calls.{Completes, DeniesStart, DeniesTest, Takes, about_at, naming_refusal}
+use Rattle.coll_serial.specs.Calls.{Completes, DeniesStart, DeniesTest, Fills, Takes, about_at, naming_refusal}
 use Rattle.coll_serial.specs.Lengths.{IsOutcomeLengthAt}
 use Rattle.coll_core.specs.declared.about.About as told
 use Rattle.worzsunab.specs.declared.forms.About.{About}
@@ -169,3 +169,7 @@ taking p r rank held named left room o bytes is h b l =
       bytes_are = b;
       left_is = l ∙ ap (left_of (seen p)) is;
     }
+
+-- bytes at the front of memory
+pub filled_by : (front bytes out : List ℕ) (n : ℕ) → front ≡ bytes → n ≡ length bytes → Fills out (front ++ drop n out) bytes
+filled_by front bytes out n same count = λ z. same z ++ drop (count z) out
