@@ -1,12 +1,6 @@
 -- from whom the members of a collective hear
 pub mod Hearings
--- for whom completions wait in a reading
-pub mod Readings
--- what a verdict means, and its exit status
-pub mod Meanings
--- what JSON tells beside a verdict
-pub mod Details
--- what an explanation says, and that it is true
+-- the exit status of a verdict, and what is reported of ranks that wait
 pub mod Verdicts
 -- which fault an explanation never ends in
 pub mod Unstalled

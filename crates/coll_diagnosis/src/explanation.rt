@@ -1,5 +1,4 @@
-ghost use Rattle.std.specs.Prelude.{◌≡◌, IfOk, IfSome};
-ghost use Rattle.coll_diagnosis.specs.Readings.{waits_in_reading};
+ghost use Rattle.std.specs.Prelude.{IfOk, IfSome};
 ghost use Rattle.coll_diagnosis.specs.Standing.{IsShown, IsStandstill};
 
 use crate::course::{Choice, Course};
@@ -41,7 +40,6 @@ impl Explanation {
     ghost use Rattle.std.specs.Prelude.{◌≡◌, false, true, None, IfOk, IfSome, IsSome};
     ghost use Rattle.coll_diagnosis.specs.declared.verdict.Verdict.TheVariants.{Never};
     ghost use Rattle.coll_diagnosis.specs.Cures.{IsTried};
-    ghost use Rattle.coll_diagnosis.specs.Details.{waiting_of};
     ghost use Rattle.coll_diagnosis.specs.Standing.{IsShown};
     ghost use Rattle.coll_diagnosis.specs.Verdicts.{is_always_here, Means};
 
@@ -53,8 +51,6 @@ impl Explanation {
     pub fn of(alloc: Global, text: &[u8], script: &Script) -> Result<Explanation, Refusal>
         // What is shown is true of the commands of the text.
         ensures shown { IfOk result (λ e. IfSome e.shown (IsShown script.now)) }
-        // Completions wait there for those for whom they wait by the verdict.
-        ensures reading { IfOk result (λ e. IfSome e.shown (λ shown. shown.waiting ≡ waiting_of e.verdict)) }
         // What the verdict says of all runs is true.
         ensures means { IfOk result (λ e. Means e.verdict script.now) }
         ensures never { IfOk result (λ e. e.verdict ≡ Never → e.shown ≡ None) }
@@ -87,8 +83,7 @@ impl Explanation {
 
 /// Where the ranks stand in every run of this engine. Refuses [`Refusal::Torn`] if they come to their ends, which doesn't happen.
 fn stall_here(alloc: Global, script: &Script, job: &Job) -> Result<ShownStall, Refusal>
-    ensures shown { IfOk result (IsShown script.now) }
-    ensures reading { IfOk result (λ shown. shown.waiting ≡ WaitsFor.Heard) }
+    ensures { IfOk result (IsShown script.now) }
 {
     match stall_by_schedules(alloc, script, job)? {
         Some(shown) => Ok(shown),
@@ -102,8 +97,7 @@ fn stall_by_schedules(
     script: &Script,
     job: &Job,
 ) -> Result<Option<ShownStall>, Refusal>
-    ensures shown { IfOk result (λ found. IfSome found (IsShown script.now)) }
-    ensures reading { IfOk result (λ found. IfSome found (λ shown. shown.waiting ≡ WaitsFor.Heard)) }
+    ensures { IfOk result (λ found. IfSome found (IsShown script.now)) }
 {
     let tables = tables_of(alloc, &job.collectives)?;
     stall_among(alloc, script, job, Reading::Heard(&tables))
@@ -117,8 +111,7 @@ fn stall_among(
     job: &Job,
     reading: Reading<'_>,
 ) -> Result<Option<ShownStall>, Refusal>
-    ensures shown { IfOk result (λ found. IfSome found (IsShown script.now)) }
-    ensures reading { IfOk result (λ found. IfSome found (λ shown. shown.waiting ≡ waits_in_reading reading.entry)) }
+    ensures { IfOk result (λ found. IfSome found (IsShown script.now)) }
 {
     for choice in [Choice::Best, Choice::First, Choice::Last] {
         let course = Course::of(alloc, &*job, reading, choice)?;

@@ -1,6 +1,3 @@
-ghost use Rattle.std.specs.Prelude.{◌≡◌};
-ghost use Rattle.coll_diagnosis.specs.Readings.{waits_in_reading};
-
 use coll_verdict::HeardRows;
 
 /// For which members the completion of a collective waits.
@@ -25,9 +22,7 @@ pub enum Reading<'t> {
 
 impl<'t> Reading<'t> {
     /// The reading without its tables.
-    pub fn waits_for(self) -> WaitsFor
-        ensures { result ≡ waits_in_reading self.entry }
-    {
+    pub fn waits_for(self) -> WaitsFor {
         match self {
             Reading::Needed => WaitsFor::Needed,
             Reading::Heard(_) => WaitsFor::Heard,

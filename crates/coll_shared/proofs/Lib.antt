@@ -2,7 +2,6 @@
 pub mod Telling
 pub mod Planning
 pub mod Starts
-pub mod Sleepers
 -- threads and programs of ranks
 pub mod RankThreads
 pub mod RankPrograms

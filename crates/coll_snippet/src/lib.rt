@@ -1,4 +1,4 @@
-//! Diagnostics as they are printed: lines of a text with marks below their words, labels, notes and help.
+//! Diagnostics as they are printed: lines of a text with marks below their words, labels, notes and help, and objects as lines of JSON.
 //!
 //! | Module | Has |
 //! |---|---|
@@ -6,17 +6,17 @@
 //! | `excerpt` | `Excerpt`, a line as it is shown, with the columns of its marks |
 //! | `page` | `Page`, the lines for a reader; `Paint`, their colours |
 //! | `ranges` | `push_ranks`, ranks as ranges |
-//! | `line_feeds` | `has_line_feed`, whether bytes are one line |
+//! | `json_lines` | `push_object`, an object as a line of JSON |
 #![tactic(auto)]
 
 mod excerpt;
-mod line_feeds;
+mod json_lines;
 mod page;
 mod ranges;
 mod source;
 
 pub use excerpt::Excerpt;
-pub use line_feeds::has_line_feed;
+pub use json_lines::push_object;
 pub use page::{Page, Paint};
 pub use ranges::push_ranks;
 pub use source::Source;

@@ -1,4 +1,0 @@
--- texts as strings of JSON
-pub mod Quoted
--- the page
-pub mod Pages
