@@ -85,6 +85,7 @@ runs_of() {
         bounded) for ranks in 3 8; do echo "$ranks"; done ;;
         waiting) for ranks in 2 4; do echo "$ranks"; done ;;
         mixed) printf '%s\n' "2 200 1" "4 200 2" "8 100 3" ;;
+        helped) printf '%s\n' "2 20 1" "4 20 2" "8 5 8" ;;
         *) echo ;;
     esac
 }
@@ -174,12 +175,40 @@ check_c() {
     [ ! "$checks_threads" ] || try_client bounded tsan $c -fsanitize=thread "$here/c/bounded.c" $shim $static $counted
     # shellcheck disable=SC2086
     try_client waiting static $c "$here/c/waiting.c" $shim $static -Wl,--wrap=sched_yield
+    helping="-Wl,--wrap=wz_run_work -Wl,--wrap=pthread_create -Wl,--wrap=pthread_join"
+    # shellcheck disable=SC2086
+    try_client helped static $c "$here/c/helped.c" $shim $static $helping
+    # shellcheck disable=SC2086
+    [ ! "$checks_threads" ] || try_client helped tsan $c -fsanitize=thread "$here/c/helped.c" $shim $static $helping
+    check_with_progress
     check_one_refusal
     check_helgrind
     check_headers c c11 "$cc" gcc clang
     check_tables
     check_symbols
-    check_leaks refusals cases given memory sum explained left "waits 3 5" "calls 3 2" "threads 4 20 quiet"
+    check_leaks refusals cases given memory sum explained left "waits 3 5" "calls 3 2" "threads 4 20 quiet" "helped 3 3 2"
+}
+
+# Clients whose engines have progress threads, which change nothing that a client sees.
+check_with_progress() {
+    opening="-Wl,--wrap=wz_shared_open -Wl,--wrap=wz_shared_open_world"
+    for client in threads mixed waits calls explained sum; do
+        for way in progress progress.tsan; do
+            [ "$way" = progress ] || [ "$checks_threads" ] || continue
+            flags=
+            [ "$way" = progress ] || flags="-fsanitize=thread $shim"
+            # shellcheck disable=SC2086
+            check "build $client, $way" $c "$here/c/$client.c" "$here/c/with_progress.c" $flags $static $opening -o "$work/$client.$way"
+            [ -x "$work/$client.$way" ] || continue
+            runs_of "$client" > "$work/runs"
+            while read -r words; do
+                for threads in 0 1 2 8; do
+                    # shellcheck disable=SC2086
+                    check "$client${words:+ $words}, $way of $threads threads" env WITH_PROGRESS=$threads "$work/$client.$way" $words
+                done
+            done < "$work/runs"
+        done
+    done
 }
 
 # Where one rank's post is refused, the program ends, and the three others learn of it.
@@ -197,12 +226,13 @@ check_one_refusal() {
 check_helgrind() {
     has valgrind || { skip "C under Helgrind" "there is no valgrind"; return; }
     echo '#include <valgrind/helgrind.h>' | $cc -x c -fsyntax-only - 2> /dev/null || { skip "C under Helgrind" "there is no valgrind/helgrind.h"; return; }
-    for words in sum one_refusal explained given "waits 2 3" "waits 4 1" "calls 3 1" "calls 8 1" "mixed 2 10 1" "mixed 3 5 2" "threads 2 5 quiet" "threads 4 3 quiet" "bounded 2 1"; do
+    for words in sum one_refusal explained given "waits 2 3" "waits 4 1" "calls 3 1" "calls 8 1" "mixed 2 10 1" "mixed 3 5 2" "threads 2 5 quiet" "threads 4 3 quiet" "bounded 2 1" "helped 2 2 1" "helped 3 2 2"; do
         client=${words%% *}
         arguments=${words#"$client"}
         sources=$here/c/$client.c
         [ "$client" != bounded ] || sources="$sources $counted"
         [ "$client" != given ] || sources="$sources $copying"
+        [ "$client" != helped ] || sources="$sources $helping"
         [ "$client" != one_refusal ] || sources="$sources $here/c/sum.c -Wl,--wrap=wz_post"
         # shellcheck disable=SC2086
         [ -x "$work/$client.helgrind" ] || check "build $client, helgrind" $c -DWZ_HELGRIND $sources $shim $static -o "$work/$client.helgrind"

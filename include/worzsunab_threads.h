@@ -36,6 +36,13 @@ int32_t wz_shared_open_world(wz_shared *shared, uint8_t ranks);
 /* Closes it once no thread uses it any longer; as wz_close. */
 int32_t wz_shared_close(wz_shared *shared);
 
+/* From now on so many progress threads, 0 to 8, make progress beside the ranks, also while all ranks compute between
+   their calls: they make actions and compute combinations as a rank that waits does, and sleep where nothing is to be
+   done. They count as no rank, so a stall is told as without them. The first call starts threads, a later one starts
+   or ends some; wz_shared_close ends them. They take none of the process's signals.
+   WZ_CLOSED; WZ_BAD_CONFIG (more than 8); WZ_NO_MEMORY (a thread can't be started: there are as many as before). */
+int32_t wz_shared_progress(wz_shared *shared, uint32_t threads);
+
 /* The rank's thread makes no further call, so others don't wait for it. Call it on every way out of the thread. A rank
    that begins, tests or waits afterwards counts again. */
 void wz_shared_leave(wz_shared *shared, uint8_t rank);

@@ -6,7 +6,7 @@
  * and one for the progress that follows. How often a thread looks before it sleeps, and how often a combiner looks again,
  * are free choices.
  *
- * Sizes:   RANKS, COLLECTIVES, COMBINATIONS (combinations of a collective)
+ * Sizes:   RANKS, COLLECTIVES, COMBINATIONS (combinations of a collective), HELPERS (progress threads: 0 or 1)
  * Forms:   LONG (combinations are computed with the lock free), CHAINED (a combination is ready once the one before it is there),
  *          FAIR (for liveness), COARSE (what one hold of the lock does to the records is one step for all of them, and so are the wake-ups
  *          that follow it)
@@ -21,6 +21,9 @@
  *          LEFT_UNSEEN        those who wait look for a combination to take out, and not for the one that is left to them
  *          NEVER_LATE         who tests leaves a combination again and again, also where the one who was called to it doesn't come
  *          GONE_TWICE         who had left and calls again counts as gone still
+ *          HELPER_COUNTS      a progress thread counts as a rank that waits
+ *          HELPER_UNSERVED    nobody takes a progress thread's combination back but itself, and it isn't woken to
+ *          HELPER_UNSEEN      work is left to a progress thread, and only ranks are called
  */
 #ifndef RANKS
 #define RANKS 2
@@ -31,6 +34,10 @@
 #ifndef COMBINATIONS
 #define COMBINATIONS 2
 #endif
+#ifndef HELPERS
+#define HELPERS 0
+#endif
+#define RECORDS (RANKS + HELPERS)       /* those of ranks, then those of progress threads */
 #define BIT(n) (1 << (n))
 
 hidden byte i, j;       /* scratch of one step */
@@ -48,30 +55,35 @@ byte missing[COLLECTIVES];  /* combinations that aren't there yet */
 #define TESTED 2
 #define WAITING 3
 #define CALLED 4
-byte stage[RANKS];
+byte stage[RECORDS];
 #define NONE 0
 #define COMPUTING 1
 #define COMPUTED 2
-byte combination[RANKS];
-bit sleeps[RANKS];
+byte combination[RECORDS];
+bit sleeps[RECORDS];
 #define A_POST 0
 #define A_TEST 1
 #define A_WAIT 2
 #define A_LEAVE 3
-byte kind[RANKS], about[RANKS], taken[RANKS];
+byte kind[RECORDS], about[RECORDS], taken[RECORDS];
 #define DONE 0
 #define PENDING 1
 #define STALLED 2
-byte reply[RANKS];
-byte combinations[RANKS];     /* that this call has computed */
+byte reply[RECORDS];
+byte combinations[RECORDS];     /* that this call has computed */
 
 bit held;
 /* under the lock */
 byte waiting, gone, outside;
 byte next_of;           /* the collective, and one more, of the combination that is left to those who wait; 0: none is */
 bit stalled, unsettled, left[RANKS];
-bit late[RANKS];        /* it gave the lock up while a rank that had been called before hadn't come: once is often enough here */
+bit late[RECORDS];        /* it gave the lock up while a rank that had been called before hadn't come: once is often enough here */
 
+#ifdef HELPER_COUNTS
+#define COUNTS(r) true
+#else
+#define COUNTS(r) (r < RANKS)
+#endif
 #define IS_OVER(r) (stage[r] == ANSWERED && combination[r] == NONE)
 #ifdef NOT_WOKEN
 #define IS_DUE(r) (stage[r] == ANSWERED || stage[r] == CALLED || combination[r] == COMPUTED)
@@ -83,7 +95,7 @@ bit late[RANKS];        /* it gave the lock up while a rank that had been called
 /* ---------------------------------------------------------------- what the holder of the lock does */
 inline answer(r, what) {
     if
-    :: stage[r] == WAITING || stage[r] == CALLED -> waiting--
+    :: (stage[r] == WAITING || stage[r] == CALLED) && COUNTS(r) -> waiting--
     :: else
     fi;
     reply[r] = what; stage[r] = ANSWERED
@@ -174,10 +186,11 @@ inline find_work() {
     od
 }
 
+#define HELPED (waiting > 0 || HELPERS > 0)
 #ifdef NEVER_LATE
-#define LEAVES(r) (kind[r] != A_WAIT && waiting > 0)
+#define LEAVES(r) (kind[r] != A_WAIT && HELPED)
 #else
-#define LEAVES(r) (kind[r] != A_WAIT && waiting > 0 && !late[r])
+#define LEAVES(r) (kind[r] != A_WAIT && HELPED && !late[r])
 #endif
 #ifdef LEFT_UNSEEN
 #define IS_LEFT(r) (next_of > 0 && kind[r] != A_WAIT)
@@ -196,7 +209,14 @@ inline progress(r) {
     fi;
     if
     :: next_of > 0 && unsettled && !LEAVES(r) ->
-        taken[r] = next_of - 1; next_of = 0; outside++; combination[r] = COMPUTING
+        taken[r] = next_of - 1; next_of = 0; outside++; combination[r] = COMPUTING;
+#if HELPERS
+        find_work();
+        if
+        :: j == COLLECTIVES -> unsettled = 0
+        :: j < COLLECTIVES -> ready[j] = ready[j] - 1; next_of = j + 1
+        fi
+#endif
     :: else
 #else
     :: j == COLLECTIVES -> unsettled = 0
@@ -245,33 +265,44 @@ inline judge() {
     fi
 }
 
+#if HELPERS
+#define PARALLEL (next_of > 0)
+#else
+#define PARALLEL false
+#endif
+#ifdef HELPER_UNSEEN
+#define CALLABLE RANKS
+#else
+#define CALLABLE RECORDS
+#endif
 #define GOES_ON(r) (stage[r] == WAITING && combination[r] != NONE)
 
+/* ranks are called before progress threads */
 inline hand_on(r) {
 #ifndef NOT_HANDED_ON
     if
-    :: unsettled && waiting > 0 ->
-        late[r] = 0; i = 0; j = RANKS;
+    :: unsettled && HELPED ->
+        late[r] = 0; i = 0; j = RECORDS;
         do
-        :: i < RANKS ->
+        :: i < CALLABLE ->
             if
             :: stage[i] == CALLED ->
 #ifdef LONG
                 late[r] = 1;
 #endif
-                j = RANKS; break
-            :: GOES_ON(i) -> j = RANKS; break
-            :: stage[i] == WAITING && combination[i] == NONE && j == RANKS -> j = i; i++
+                j = RECORDS; break
+            :: GOES_ON(i) && !PARALLEL -> j = RECORDS; break
+            :: stage[i] == WAITING && combination[i] == NONE && j == RECORDS -> j = i; i++
             :: else -> i++
             fi
         :: else -> break
         od;
         if
-        :: j < RANKS -> stage[j] = CALLED
+        :: j < RECORDS -> stage[j] = CALLED
         :: else
         fi
-    :: waiting == 0 -> late[r] = 0
-    :: waiting > 0 && !unsettled
+    :: !HELPED -> late[r] = 0
+    :: HELPED && !unsettled
     fi
 #else
     skip
@@ -285,6 +316,7 @@ inline hand_on(r) {
 #define TEST 3
 #define POLL 4          /* tests until it is done */
 #define LEAVE 5         /* and goes on all the same */
+#define COMPUTE 6       /* makes no call until it is done */
 #define LINES 6
 hidden byte command[RANKS * LINES], argument[RANKS * LINES], length[RANKS];     /* which don't change */
 byte ending[RANKS];     /* what its last wait returned */
@@ -302,6 +334,8 @@ inline program() {
     od;
 #if defined(ONE)
     ALL(POST, 0); ALL(WAIT, 0)
+#elif defined(COMPUTES)     /* nobody is in a call until all is done */
+    ALL(POST, 0); ALL(COMPUTE, 0); ALL(WAIT, 0)
 #elif defined(TWO)
     ALL(POST, 0); ALL(POST, 1); ALL(WAIT, 1); ALL(WAIT, 0)
 #elif defined(POLLS)
@@ -346,25 +380,43 @@ inline program() {
 #endif
 }
 
+#if HELPERS
+#define HELPER_PUBLISHED (combination[RANKS] == COMPUTED)
+#else
+#define HELPER_PUBLISHED false
+#endif
 #if RANKS == 3
-#define SOME_PUBLISHED (stage[0] == PUBLISHED || stage[1] == PUBLISHED || stage[2] == PUBLISHED || combination[0] == COMPUTED || combination[1] == COMPUTED || combination[2] == COMPUTED)
+#define SOME_PUBLISHED (stage[0] == PUBLISHED || stage[1] == PUBLISHED || stage[2] == PUBLISHED || combination[0] == COMPUTED || combination[1] == COMPUTED || combination[2] == COMPUTED || HELPER_PUBLISHED)
 #else
-#define SOME_PUBLISHED (stage[0] == PUBLISHED || stage[1] == PUBLISHED || combination[0] == COMPUTED || combination[1] == COMPUTED)
+#define SOME_PUBLISHED (stage[0] == PUBLISHED || stage[1] == PUBLISHED || combination[0] == COMPUTED || combination[1] == COMPUTED || HELPER_PUBLISHED)
 #endif
 
+#ifdef HELPER_UNSERVED
+#define SERVED RANKS
+#else
+#define SERVED RECORDS
+#endif
 #ifdef COARSE
-#define SERVE_ALL true; d_step { do :: next < RANKS -> serve(next); next++ :: else -> next = 0; break od }
-#define WAKE_ALL d_step { do :: next < RANKS -> if :: sleeps[next] && IS_DUE(next) -> sleeps[next] = 0 :: else fi; next++ :: else -> next = 0; break od }
+#define SERVE_ALL true; d_step { do :: next < SERVED -> serve(next); next++ :: else -> next = 0; break od }
+#define WAKE_ALL d_step { do :: next < SERVED -> if :: sleeps[next] && IS_DUE(next) -> sleeps[next] = 0 :: else fi; next++ :: else -> next = 0; break od }
 #else
-#define SERVE_ALL do :: next < RANKS -> d_step { serve(next) }; next++ :: else -> next = 0; break od
-#define WAKE_ALL do :: next < RANKS -> if :: sleeps[next] -> if :: IS_DUE(next) -> sleeps[next] = 0 :: else fi :: else fi; next++ :: else -> next = 0; break od
+#define SERVE_ALL do :: next < SERVED -> d_step { serve(next) }; next++ :: else -> next = 0; break od
+#define WAKE_ALL do :: next < SERVED -> if :: sleeps[next] -> if :: IS_DUE(next) -> sleeps[next] = 0 :: else fi :: else fi; next++ :: else -> next = 0; break od
 #endif
 
-/* ---------------------------------------------------------------- a rank's thread */
+/* ---------------------------------------------------------------- the thread of a rank, or a progress thread, which waits until the end */
 proctype Rank(byte me) {
     byte at, what, next;
     bit was;
+    if
+    :: me >= RANKS -> goto Looks
+    :: else
+    fi;
 Next: true;
+    if
+    :: command[me * LINES + at] == COMPUTE -> IS_DONE(argument[me * LINES + at]); at++
+    :: else
+    fi;
     d_step {
         what = command[me * LINES + at]; about[me] = argument[me * LINES + at]; at++; combinations[me] = 0; reply[me] = DONE;
         kind[me] = (what == POST -> A_POST : (what == WAIT -> A_WAIT : (what == END || what == LEAVE -> A_LEAVE : A_TEST)));
@@ -469,25 +521,50 @@ Unlocks: true;
 
 Answered:
     if
-    :: what == END -> d_step { over = over | BIT(me) }; goto Ended
-    :: what == WAIT && reply[me] == STALLED -> d_step { ending[me] = STALLED; at = length[me] }; goto Next
-    :: what == POLL && reply[me] == PENDING -> at--; goto Next
+    :: me >= RANKS -> goto Ended
+    :: me < RANKS && what == END -> d_step { over = over | BIT(me) }; goto Ended
+    :: me < RANKS && what == WAIT && reply[me] == STALLED -> d_step { ending[me] = STALLED; at = length[me] }; goto Next
+    :: me < RANKS && what == POLL && reply[me] == PENDING -> at--; goto Next
     :: else -> assert(reply[me] != STALLED); goto Next
     fi;
 Ended:
     skip
 }
 
+/* the engine is closed: its progress threads end */
+inline close() {
+#if HELPERS
+    atomic { !held -> held = 1 };
+    d_step { answer(RANKS, DONE); j = 0; i = 0 };
+    held = 0;
+    if
+    :: sleeps[RANKS] -> sleeps[RANKS] = 0
+    :: else
+    fi
+#else
+    skip
+#endif
+}
+
 init {
-    d_step { program() };
+    d_step {
+        program();
+#if HELPERS
+        kind[RANKS] = A_WAIT; stage[RANKS] = WAITING;
+#ifdef HELPER_COUNTS
+        waiting++;
+#endif
+#endif
+    };
     atomic {
         i = 0;
         do
-        :: i < RANKS -> run Rank(i); i++
+        :: i < RECORDS -> run Rank(i); i++
         :: else -> break
         od
     };
     over == EVERYONE;
+    close();
     (_nr_pr == 1);
     d_step {
         i = 0;

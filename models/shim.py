@@ -48,6 +48,16 @@ CONFIGURATIONS = [
     (True, False, "absentee, 2 ranks, long", f"ABSENTEE {TWO} LONG"),
     (True, False, "absentee, 3 ranks", f"ABSENTEE {THREE} {TWO} COMBINATIONS=1 COARSE"),
     (True, False, "absentee, 3 ranks, long", f"ABSENTEE {THREE} {TWO} LONG COMBINATIONS=1 COARSE"),
+    (True, False, "computes, 2 ranks, helped", "COMPUTES HELPERS=1 COARSE"),
+    (True, False, "computes, 2 ranks, long, helped", "COMPUTES LONG HELPERS=1 COARSE"),
+    (True, False, "computes, 2 ranks, long, chained, helped", "COMPUTES LONG CHAINED HELPERS=1 COARSE"),
+    (True, False, "computes, 3 ranks, long, helped", f"COMPUTES {THREE} LONG COMBINATIONS=1 COARSE HELPERS=1"),
+    (True, False, "one, 2 ranks, long, helped", "ONE LONG HELPERS=1 COARSE"),
+    (True, False, "some poll, 2 ranks, long, helped", "SOME_POLL LONG HELPERS=1 COARSE"),
+    (True, False, "leaver, 2 ranks, long, helped", "LEAVER LONG HELPERS=1 COARSE"),
+    (True, False, "crossed, 2 ranks, long, helped", f"CROSSED {TWO} LONG COMBINATIONS=1 COARSE HELPERS=1"),
+    (True, False, "absentee, 2 ranks, long, helped", f"ABSENTEE {TWO} LONG COMBINATIONS=1 COARSE HELPERS=1"),
+    (True, True, "computes ends, 2 ranks, long, helped", "COMPUTES LONG COMBINATIONS=1 HELPERS=1 COARSE"),
     (True, True, "one ends, 2 ranks", "ONE"),
     (True, True, "one ends, 2 ranks, long", "ONE LONG"),
     (True, True, "leaver ends, 2 ranks, long", "LEAVER LONG"),
@@ -64,6 +74,9 @@ CONFIGURATIONS = [
     (False, False, "left unseen", "LEAVER LONG LEFT_UNSEEN"),
     (False, True, "never late", "SOME_POLL LONG NEVER_LATE"),
     (False, False, "gone twice", "RETURNS GONE_TWICE"),
+    (False, False, "a helper counts", f"CROSSED {TWO} LONG COMBINATIONS=1 HELPERS=1 HELPER_COUNTS"),
+    (False, False, "a helper is unserved", "COMPUTES LONG HELPERS=1 HELPER_UNSERVED"),
+    (False, False, "a helper is unseen", "COMPUTES LONG HELPERS=1 HELPER_UNSEEN"),
 ]
 
 

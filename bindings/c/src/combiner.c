@@ -7,7 +7,7 @@
 
 void answer(struct wz_combiner *combiner, struct record *record, int32_t code) {
     int stage = load(&record->stage);
-    if (stage == WAITING || stage == CALLED) combiner->waiting--;
+    if ((stage == WAITING || stage == CALLED) && !is_helper(combiner, record)) combiner->waiting--;
     if (code == WZ_DONE && combiner->numbers != NULL) record->number = atomic_fetch_add(combiner->numbers, 1);
     record->answer = code;
     store(&record->stage, ANSWERED);
@@ -96,6 +96,7 @@ static void take_back(struct wz_combiner *combiner, struct record *record) {
     wz_return_work(&combiner->engine, record->work);
     combiner->outside--;
     combiner->unsettled = true;
+    combiner->is_short = record->run != WZ_DONE;
     if (record->run != WZ_DONE) answer_waits(combiner, record->run);
     store(&record->combination, NONE);
 }
@@ -103,7 +104,8 @@ static void take_back(struct wz_combiner *combiner, struct record *record) {
 /* Applies what ranks have published, and takes their combinations back. Whether there was something. */
 static bool serve(struct wz_combiner *combiner) {
     bool any = false;
-    for (uint32_t i = 0; i <= combiner->ranks; i++) {
+    uint32_t records = count_records(combiner);
+    for (uint32_t i = 0; i < records; i++) {
         struct record *record = &combiner->records[i];
         if (load(&record->combination) == COMPUTED) {
             any = true;
@@ -129,15 +131,17 @@ static int32_t find_next(struct wz_combiner *combiner) {
     return WZ_DONE;
 }
 
-/* Whether a rank leaves combinations to those who wait. One that waits doesn't, nor one that has found too often that
-   the called rank hadn't come: that one's thread may get no processor, or never find the lock free beside ranks that
-   test again and again. */
-static bool leaves_work(const struct wz_combiner *combiner, const struct record *me) {
-    return me->operation->answered != WAITS && combiner->waiting > 0 && me->late < WZ_LOOKS;
+/* Whether a rank leaves combinations to those who wait and to progress threads. One that waits doesn't, nor one that
+   has found too often that the called one hadn't come: that one's thread may get no processor, or never find the lock
+   free beside ranks that test again and again. */
+static bool leaves_work(struct wz_combiner *combiner, const struct record *me) {
+    bool is_helped = combiner->waiting > 0 || (load(&combiner->helpers) > 0 && !combiner->is_short);
+    return me->operation->answered != WAITS && is_helped && me->late < WZ_LOOKS;
 }
 
 /* Makes actions up to the next combination, which its thread is to compute with the lock free, or leaves. A combination
-   that is left stays taken out, because the engine would compare its rows, under the lock, to take it back. */
+   that is left stays taken out, because the engine would compare its rows, under the lock, to take it back. Where there
+   are progress threads, one more is left to them, which is computed at the same time. */
 static int32_t take_combination(struct wz_combiner *combiner, struct record *me) {
     int32_t code = find_next(combiner);
     if (!combiner->is_left || leaves_work(combiner, me)) return code;
@@ -147,7 +151,7 @@ static int32_t take_combination(struct wz_combiner *combiner, struct record *me)
     combiner->is_left = false;
     combiner->outside++;
     store(&me->combination, COMPUTING);
-    return WZ_DONE;
+    return load(&combiner->helpers) > 0 ? find_next(combiner) : WZ_DONE;
 }
 
 /* Makes some progress, and answers whom it concerns. */
@@ -160,11 +164,12 @@ static void make_some_progress(struct wz_combiner *combiner, struct record *me) 
         code = wz_step(&combiner->engine, STEPS, &actions);
         combiner->unsettled = code != WZ_DONE || actions == STEPS;
     }
+    combiner->is_short = code != WZ_DONE;
     answer_waits(combiner, code);
 }
 
 /* As long as one who waits has no answer, no combination to compute and something to do, or for some looks more; once
-   for another. */
+   for another. A progress thread ends where memory is short: no answer would end its tries. */
 static void make_progress(struct wz_combiner *combiner, struct record *me) {
     for (int look = 0; look < LOOKS_UNDER_LOCK; look++) {
         if (serve(combiner)) look = 0;
@@ -174,30 +179,37 @@ static void make_progress(struct wz_combiner *combiner, struct record *me) {
         }
         judge(combiner);
         if (load(&me->stage) == ANSWERED || load(&me->combination) == COMPUTING) return;
+        if (combiner->is_short && is_helper(combiner, me)) return;
         if (look == 0) wake_sleepers(combiner);
     }
 }
 
 /* ---- the lock */
 
-static bool try_lock(struct wz_combiner *combiner) { return !load(&combiner->held) && !swap(&combiner->held, 1); }
+bool try_lock(struct wz_combiner *combiner) { return !load(&combiner->held) && !swap(&combiner->held, 1); }
 
-/* Under the lock: where work is left and nobody computes who waits, calls one who waits, or notes that the one who was
-   called hasn't come yet. */
+/* Under the lock: where work is left and nobody computes who waits, calls one who waits, or else a progress thread, or
+   notes that the one who was called hasn't come yet. Where there are progress threads, it does so too while others
+   compute, if there is a combination besides theirs. */
 static void hand_on(struct wz_combiner *combiner, struct record *me) {
     struct record *found = NULL;
     int late = me->late;
-    if (combiner->waiting > 0 && !combiner->unsettled) return;
+    uint32_t records = count_records(combiner);
+    bool has_helpers = records > combiner->ranks + 1, is_parallel = has_helpers && combiner->is_left;
+    bool is_helped = combiner->waiting > 0 || has_helpers;
+    if (is_helped && !combiner->unsettled) return;
     me->late = 0;
-    if (combiner->waiting == 0) return;
-    for (uint32_t rank = 0; rank < combiner->ranks; rank++) {
-        struct record *record = &combiner->records[rank];
+    if (!is_helped) return;
+    for (uint32_t i = 0; i < records; i++) {
+        struct record *record = &combiner->records[i];
         int stage = load(&record->stage);
         if (stage == CALLED) me->late = late < WZ_LOOKS ? late + 1 : late;
-        if (stage == CALLED || (stage == WAITING && load(&record->combination) != NONE)) return;
-        if (stage == WAITING && found == NULL) found = record;
+        bool computes = stage == WAITING && load(&record->combination) != NONE;
+        if (stage == CALLED || (computes && !is_parallel)) return;
+        if (stage == WAITING && !computes && found == NULL) found = record;
     }
-    if (found != NULL) store(&found->stage, CALLED);
+    if (found == NULL || (combiner->is_short && is_helper(combiner, found))) return;
+    store(&found->stage, CALLED);
 }
 
 static void unlock(struct wz_combiner *combiner, struct record *me) {
@@ -206,9 +218,8 @@ static void unlock(struct wz_combiner *combiner, struct record *me) {
     wake_sleepers(combiner);
 }
 
-/* Under the lock, which it gives up: serves all ranks and makes progress; where only a combination was left to return,
-   it makes none. */
-static void combine(struct wz_combiner *combiner, struct record *me) {
+/* Where only a combination was left to return, it makes no progress. */
+void combine(struct wz_combiner *combiner, struct record *me) {
     if (load(&me->stage) == ANSWERED) {
         serve(combiner);
         answer_waits(combiner, WZ_DONE);

@@ -11,6 +11,9 @@
    back. Only a rank that is called has to come by itself; where it doesn't, a rank that tests again and again computes
    the rest.
 
+   A progress thread has a record behind those of the ranks, and is like a rank that waits until the engine is closed:
+   it is called where work is left and no rank waits. It plays no rank, so it counts nowhere where ranks are counted.
+
    models/shim.pml is this protocol in Promela. Private to the library. */
 #ifndef WZ_COMBINER_H
 #define WZ_COMBINER_H
@@ -31,6 +34,7 @@ enum {
     MOST_COMMUNICATORS = 16,
     MOST_MEMBERS = 64,
     MOST_BYTES = 16777216, /* that a member gives or gets */
+    MOST_PROGRESS = 8,     /* progress threads */
     /* How often a wait that has the lock, and nothing to do, looks at the records before it gives the lock up. */
     LOOKS_UNDER_LOCK = 30,
     /* The most actions between two looks at the records: 20 to 60 microseconds. Collectives of eight ranks have 72 to
@@ -72,6 +76,12 @@ enum { TRIES = 16, IN_VAIN = 3 };
 #endif
 #ifndef WZ_REPAID
 #define WZ_REPAID 60000000000
+#endif
+
+/* A progress thread that finds no more work looks for so long, in nanoseconds, before it sleeps, where there is a
+   processor for each rank and each progress thread. */
+#ifndef WZ_LINGER
+#define WZ_LINGER 50000
 #endif
 
 /* ---- operations */
@@ -158,6 +168,7 @@ struct wz_combiner {
     uint32_t waiting;          /* ranks whose record waits or is called */
     uint32_t gone;             /* ranks that have left */
     uint32_t outside;          /* combinations that are computed with the lock free */
+    bool is_short;             /* progress was refused memory last, so progress threads don't go on */
     uint32_t stalls;           /* how many were told */
     bool stalled;              /* nothing was begun since the last */
     bool unsettled;            /* actions may be left that can be made, or progress was refused memory */
@@ -170,9 +181,12 @@ struct wz_combiner {
     uint32_t places[MOST_COMMUNICATORS][MOST_MEMBERS]; /* by rank, how many places of its list are taken */
     uint32_t *generations;                             /* by slot, of the last request that it was given to */
     struct buffers *buffers;                           /* of the same */
-    struct record *records;                            /* by rank; the one behind the last rank's is that of a guest */
+    struct record *records; /* by rank, then that of a guest, then those of progress threads */
     wz_work *works;         /* one for each record, and one to take out into: they change places */
     pthread_mutex_t guests; /* a thread that plays no rank: one at a time */
+    atomic_int helpers;     /* progress threads whose records count */
+    pthread_mutex_t starts; /* of progress threads, and their ends: one at a time */
+    struct helper *started; /* by progress thread */
 };
 
 /* ---- combiner.c */
@@ -181,8 +195,23 @@ struct operation operation_of(enum answered answered, uint8_t rank,
                               int32_t (*apply)(struct wz_combiner *, struct operation *));
 /* Publishes an operation, sees it through, and returns its answer; WZ_CLOSED where the engine is closed. */
 int32_t perform(wz_shared *shared, struct operation *operation);
+/* Whether the lock was free, and is taken. */
+bool try_lock(struct wz_combiner *combiner);
+/* Under the lock, which it gives up: serves all ranks, makes progress, and computes a combination that it took out. */
+void combine(struct wz_combiner *combiner, struct record *me);
 /* Under the lock. */
 void answer(struct wz_combiner *combiner, struct record *record, int32_t code);
+
+/* ---- progress.c */
+
+/* How many records there are: of ranks, of a guest, and of progress threads. */
+uint32_t count_records(struct wz_combiner *combiner);
+/* Whether a record is of a progress thread. */
+bool is_helper(const struct wz_combiner *combiner, const struct record *record);
+/* Room for progress threads, none of which is started; NULL where there is no memory. */
+struct helper *allocate_helpers(void);
+/* Ends all progress threads. */
+void end_helpers(wz_shared *shared);
 
 /* ---- stalls.c: under the lock */
 

@@ -59,7 +59,8 @@ void sleep_at(struct wz_combiner *combiner, struct record *me) {
 }
 
 void wake_sleepers(struct wz_combiner *combiner) {
-    for (uint32_t i = 0; i <= combiner->ranks; i++) {
+    uint32_t records = count_records(combiner);
+    for (uint32_t i = 0; i < records; i++) {
         struct record *record = &combiner->records[i];
         if (!load(&record->sleeps) || !is_due(record) || !swap(&record->sleeps, 0)) continue;
         pthread_mutex_lock(&record->guard);

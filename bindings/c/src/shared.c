@@ -18,6 +18,7 @@ static void deallocate(struct wz_combiner *combiner) {
     free(combiner->buffers);
     free(combiner->records);
     free(combiner->works);
+    free(combiner->started);
     free(combiner);
 }
 
@@ -29,28 +30,33 @@ static struct wz_combiner *allocate(const wz_limits *limits) {
     combiner->slots = limits->slots;
     combiner->generations = calloc(limits->slots, sizeof *combiner->generations);
     combiner->buffers = calloc(limits->slots, sizeof *combiner->buffers);
-    combiner->records = allocate_lines((limits->ranks + 1) * sizeof *combiner->records);
-    combiner->works = calloc(limits->ranks + 2, sizeof *combiner->works);
+    size_t records = limits->ranks + 1 + MOST_PROGRESS;
+    combiner->records = allocate_lines(records * sizeof *combiner->records);
+    combiner->works = calloc(records + 1, sizeof *combiner->works);
+    combiner->started = allocate_helpers();
     if (combiner->generations != NULL && combiner->buffers != NULL && combiner->records != NULL &&
-        combiner->works != NULL)
+        combiner->works != NULL && combiner->started != NULL)
         return combiner;
     deallocate(combiner);
     return NULL;
 }
 
 static void open_records(struct wz_combiner *combiner) {
+    uint32_t records = combiner->ranks + 1 + MOST_PROGRESS;
     pthread_mutex_init(&combiner->guests, NULL);
+    pthread_mutex_init(&combiner->starts, NULL);
     declare_word(&combiner->held);
-    for (uint32_t rank = 0; rank <= combiner->ranks; rank++) {
-        struct record *record = &combiner->records[rank];
+    declare_word(&combiner->helpers);
+    for (uint32_t i = 0; i < records; i++) {
+        struct record *record = &combiner->records[i];
         declare_word(&record->stage);
         declare_word(&record->combination);
         declare_word(&record->sleeps);
         pthread_mutex_init(&record->guard, NULL);
         pthread_cond_init(&record->woken, NULL);
-        record->work = &combiner->works[rank];
+        record->work = &combiner->works[i];
     }
-    combiner->next = &combiner->works[combiner->ranks + 1];
+    combiner->next = &combiner->works[records];
 }
 
 int32_t wz_shared_open(wz_shared *shared, const wz_limits *limits, const uint8_t *sizes, size_t communicators,
@@ -87,13 +93,15 @@ int32_t wz_shared_open_world(wz_shared *shared, uint8_t ranks) {
 int32_t wz_shared_close(wz_shared *shared) {
     struct wz_combiner *combiner = shared->at;
     if (combiner == NULL) return WZ_CLOSED;
+    end_helpers(shared);
     wz_close(&combiner->engine);
     if (combiner->is_left) wz_drop_work(combiner->next);
-    for (uint32_t rank = 0; rank <= combiner->ranks; rank++) {
-        pthread_cond_destroy(&combiner->records[rank].woken);
-        pthread_mutex_destroy(&combiner->records[rank].guard);
+    for (uint32_t i = 0; i < combiner->ranks + 1 + MOST_PROGRESS; i++) {
+        pthread_cond_destroy(&combiner->records[i].woken);
+        pthread_mutex_destroy(&combiner->records[i].guard);
     }
     pthread_mutex_destroy(&combiner->guests);
+    pthread_mutex_destroy(&combiner->starts);
     deallocate(combiner);
     shared->at = NULL;
     return WZ_DONE;
