@@ -73,6 +73,21 @@ impl Engine {
         Ok(Engine { shared: UnsafeCell::new(shared), sizes, given })
     }
 
+    /// From now on so many progress threads, 0 to 8, make progress beside the ranks, also while all ranks compute between their
+    /// calls. They count as no rank, so a wait that nobody can end is told as without them. They end with the engine.
+    ///
+    /// # Errors
+    ///
+    /// BadConfig where there would be more than 8; NoMemory where a thread can't be started: there are as many as before.
+    pub fn set_progress_threads(&self, threads: u8) -> Result<(), Refusal> {
+        // SAFETY: the engine is open.
+        match unsafe { raw::wz_shared_progress(self.shared(), u32::from(threads)) } {
+            0 => Ok(()),
+            BAD_CONFIG => Err(Refusal::BadConfig(Field::Progress)),
+            code => Err(Refusal::of(code, &RawReason::default())),
+        }
+    }
+
     /// The port of a rank, for the thread that plays it. None where there is no such rank, or its port was taken before.
     pub fn port(&self, rank: u8) -> Option<Port<'_>> {
         let given = self.given.get(usize::from(rank))?;

@@ -103,6 +103,7 @@ extern "C" {
         member_count: usize,
     ) -> i32;
     pub fn wz_shared_close(shared: *mut RawShared) -> i32;
+    pub fn wz_shared_progress(shared: *mut RawShared, threads: u32) -> i32;
     pub fn wz_shared_leave(shared: *mut RawShared, rank: u8);
     pub fn wz_shared_post(
         shared: *mut RawShared,

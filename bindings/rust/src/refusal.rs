@@ -79,6 +79,8 @@ pub enum Field {
     Wear,
     /// [`Limits::starts`](crate::Limits::starts).
     Starts,
+    /// The number of progress threads.
+    Progress,
 }
 
 /// What another member has at a place of the posting lists.
@@ -230,6 +232,7 @@ impl fmt::Display for Field {
             Field::Places => "places",
             Field::Wear => "wear",
             Field::Starts => "starts",
+            Field::Progress => "number of progress threads",
         })
     }
 }

@@ -369,3 +369,33 @@ fn a_port_is_one_and_its_end_is_told() {
     drop(second);
     assert_eq!(first.wait(&mut request, &mut []), Err(Refusal::Stalled));
 }
+
+#[test]
+fn progress_threads_go_on_while_ranks_compute() {
+    let engine = Engine::of_ranks(2).unwrap();
+    assert_eq!(engine.set_progress_threads(9), Err(Refusal::BadConfig(Field::Progress)));
+    for threads in [1, 2, 8, 0, 1] {
+        engine.set_progress_threads(threads).unwrap();
+    }
+    by_ranks(&engine, 2, |port, rank| {
+        for i in 0..20 {
+            let row: Vec<i64> = (0..2_000).map(|at| at + i64::from(rank) + i).collect();
+            let mut request = port.post(0, Call::allreduce(Op::Sum, Type::I64, 2_000), &bytes_of(&row)).unwrap();
+            let sums: Vec<i64> = port.wait_values(&mut request).unwrap();
+            assert!(sums.iter().zip(0..).all(|(sum, at)| *sum == 2 * (at + i) + 1));
+        }
+    });
+    assert_eq!(engine.lent(), 0);
+}
+
+#[test]
+fn a_stall_is_told_beside_progress_threads() {
+    let engine = Engine::of_ranks(2).unwrap();
+    engine.set_progress_threads(2).unwrap();
+    by_ranks(&engine, 2, |port, rank| {
+        if rank == 0 {
+            let mut request = port.post(0, Call::barrier(), &[]).unwrap();
+            assert_eq!(port.wait(&mut request, &mut []), Err(Refusal::Stalled));
+        }
+    });
+}
