@@ -102,6 +102,7 @@ struct run {
     bool one_folder; /* the system doesn't let ranks have working directories of their own */
     bool notes; /* for --trace, --timeline or --stats */
     uint64_t seed;           /* 0: nothing is drawn */
+    uint32_t progress;       /* progress threads of each communicator's engine */
     double timeout;          /* seconds; 0: none */
     const char *text, *values;    /* the files for the job text and for what requests got; NULL: none */
     const char *trace, *timeline; /* and for what the run did */

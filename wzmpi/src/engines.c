@@ -26,6 +26,11 @@ static struct engine *open_engine(const struct comm *comm, uint64_t number) {
         _exit(1);
     }
     if (the_run.trace != NULL) wz_shared_number_calls(&engine->shared, &taken);
+    if (comm->size > 1) code = wz_shared_progress(&engine->shared, the_run.progress);
+    if (code != WZ_DONE) {
+        fprintf(stderr, "wzrun: --progress %lu: no thread can be started: %s\n", (unsigned long)the_run.progress, wz_message(code));
+        _exit(1);
+    }
     atomic_init(&engine->requests, 0);
     engine->number = number;
     return engine;

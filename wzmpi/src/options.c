@@ -13,6 +13,7 @@ static const char help[] =
     "Ranks:\n"
     "  -n N, -np N      1 to 64 ranks; else WZ_RANKS says how many, or there is one\n"
     "  -x NAME[=VALUE]  sets a variable of the environment\n"
+    "  --progress N     0 to 8 threads for each communicator, which go on with its collectives while all its ranks compute\n"
     "Checks:\n"
     "  --strict         a collective is complete only once all its members have called it, and a send once it is received\n"
     "  --check          reports where a program changes what a nonblocking or persistent call sends, or writes to where it receives, before it is completed\n"
@@ -64,6 +65,11 @@ static int status_of(const char *word, const char *text) {
     return (int)it;
 }
 
+static uint32_t progress_of(const char *word, const char *text) {
+    if (text[0] < '0' || text[0] > '8' || text[1] != '\0') give_up(word, "0 to 8 progress threads stand after it");
+    return (uint32_t)(text[0] - '0');
+}
+
 static enum colours colours_of(const char *word, const char *text) {
     if (strcmp(text, "auto") != 0 && strcmp(text, "always") != 0 && strcmp(text, "never") != 0) give_up(word, "auto, always or never stands after it");
     return text[0] == 'n' ? NEVER : text[1] == 'l' ? ALWAYS : AUTOMATIC;
@@ -113,6 +119,7 @@ static bool read_value(const char *word, const char *value, struct options *opti
     else if (is_word(word, "--status-of-faults")) the_run.status_of_faults = status_of(word, value);
     else if (is_word(word, "--color")) the_run.colours = colours_of(word, value);
     else if (is_word(word, "--timeout")) the_run.timeout = seconds_of(word, value);
+    else if (is_word(word, "--progress")) the_run.progress = progress_of(word, value);
     else if (is_word(word, "--seed")) the_run.seed = number(word, value, NULL);
     else if (is_word(word, "--seeds")) read_seeds(value, options);
     else if (is_word(word, "--text")) the_run.text = value;
@@ -144,6 +151,7 @@ static void read_variables(struct options *options) {
     if (variable("WZ_STATUS_OF_FAULTS") != NULL) the_run.status_of_faults = status_of("WZ_STATUS_OF_FAULTS", variable("WZ_STATUS_OF_FAULTS"));
     if (variable("WZ_TIMEOUT") != NULL) the_run.timeout = seconds_of("WZ_TIMEOUT", variable("WZ_TIMEOUT"));
     if (variable("WZ_SEED") != NULL) the_run.seed = number("WZ_SEED", variable("WZ_SEED"), NULL);
+    if (variable("WZ_PROGRESS") != NULL) the_run.progress = progress_of("WZ_PROGRESS", variable("WZ_PROGRESS"));
     the_run.text = variable("WZ_TEXT");
     the_run.values = variable("WZ_VALUES");
     the_run.timeline = variable("WZ_TIMELINE");

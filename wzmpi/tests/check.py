@@ -197,7 +197,7 @@ def check_right(binaries, out, only):
     failed, all_runs = 0, 0
     for name, program in right_programs(binaries, out, only):
         for ranks in RIGHT_RANKS.get(name, [1, 2, 5]):
-            for more in ([], ["--strict", "--check"], ["--seed", "7"]):
+            for more in ([], ["--strict", "--check"], ["--seed", "7"], ["--progress", "2"]):
                 if name == "many_places" and more:
                     continue
                 all_runs += 1

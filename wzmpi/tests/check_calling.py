@@ -40,6 +40,37 @@ int main(int argc, char **argv) {
     return 0;
 }
 """
+# How many threads there are once ranks have begun a collective, and a sum of long rows.
+THREADS = r"""#include <dirent.h>
+#include <mpi.h>
+#include <stdint.h>
+#include <stdio.h>
+static int64_t row[8192], sums[8192];
+int main(int argc, char **argv) {
+    int rank, size;
+    MPI_Request request;
+    MPI_Init(&argc, &argv);
+    MPI_Comm_rank(MPI_COMM_WORLD, &rank);
+    MPI_Comm_size(MPI_COMM_WORLD, &size);
+    for (int turn = 0; turn < 20; turn++) {
+        for (int i = 0; i < 8192; i++) row[i] = rank + turn + i;
+        MPI_Iallreduce(row, sums, 8192, MPI_INT64_T, MPI_SUM, MPI_COMM_WORLD, &request);
+        MPI_Wait(&request, MPI_STATUS_IGNORE);
+        for (int i = 0; i < 8192; i++)
+            if (sums[i] != size * (size - 1) / 2 + (int64_t)size * (turn + i)) MPI_Abort(MPI_COMM_WORLD, 9);
+    }
+    if (rank == 0) {
+        int threads = 0;
+        DIR *folder = opendir("/proc/self/task");
+        while (readdir(folder) != NULL) threads++;
+        closedir(folder);
+        printf("%d\n", threads);
+    }
+    MPI_Barrier(MPI_COMM_WORLD);
+    MPI_Finalize();
+    return 0;
+}
+"""
 PROJECT = """cmake_minimum_required(VERSION 3.10)
 project(hello CXX C)
 find_package(MPI REQUIRED)
@@ -163,6 +194,22 @@ def check_kept_blocks(binaries, folder):
     return reported(0 <= many["own"] < 60 and many["the user's"] > 100, f"fresh pages of an allreduce of 512 KiB: {many}")
 
 
+def check_progress(binaries, program):
+    """--progress N adds N threads, which change no value."""
+    wzrun, failed, threads = str(binaries / "wzrun"), 0, {}
+    for many in range(9):
+        status, said = run([wzrun, "-n", "3", "--progress", str(many), program])
+        threads[many] = int(said) if status == 0 and said.strip().isdigit() else None
+    failed += reported(all(threads[many] == threads[0] + many for many in threads), f"wzrun --progress N: threads by N: {threads}")
+    status, said = run([wzrun, "-n", "3", program], env={**os.environ, "WZ_PROGRESS": "2"})
+    failed += reported(said == f"{threads[2]}\n", f"WZ_PROGRESS=2: status {status}: {said}")
+    for words, variables, word in ((["--progress", "9"], {}, "--progress"), (["--progress=-1"], {}, "--progress"), ([], {"WZ_PROGRESS": "some"}, "WZ_PROGRESS")):
+        status, said = run([wzrun, *words, program], env={**os.environ, **variables})
+        wanted = f"wzrun: {word}: 0 to 8 progress threads stand after it (wzrun --help says more)\n"
+        failed += reported(status == 1 and said == wanted, f"wzrun {words}, {variables}: status {status}: {said}")
+    return failed
+
+
 def check_colours(binaries, program):
     """As colljob has them: none in a pipe, unless they are asked for."""
     failed = 0
@@ -241,7 +288,8 @@ def check(binaries, out):
     folder = out / "calling.d"
     folder.mkdir()
     program = str(compiled(binaries, written(folder / "given.c", GIVEN), folder / "given"))
-    failed = check_words(binaries, program) + check_large_pages(binaries, folder) + check_kept_blocks(binaries, folder) + check_colours(binaries, program) + check_help(binaries)
+    failed = check_progress(binaries, str(compiled(binaries, written(folder / "threads.c", THREADS), folder / "threads")))
+    failed += check_words(binaries, program) + check_large_pages(binaries, folder) + check_kept_blocks(binaries, folder) + check_colours(binaries, program) + check_help(binaries)
     failed += check_compilers(binaries, folder) + check_cmake(binaries, folder) + check_spaces(binaries, folder)
     print("check.py: the tools are called as mpirun and mpicc are" if failed == 0 else f"check.py: {failed} ways to call the tools failed")
     return failed
