@@ -187,10 +187,11 @@ inline find_work() {
 }
 
 #define HELPED (waiting > 0 || HELPERS > 0)
+#define GOES_ON_WAITING(r) (kind[r] == A_WAIT && !(HELPERS > 0 && stage[r] == ANSWERED))
 #ifdef NEVER_LATE
-#define LEAVES(r) (kind[r] != A_WAIT && HELPED)
+#define LEAVES(r) (!GOES_ON_WAITING(r) && HELPED)
 #else
-#define LEAVES(r) (kind[r] != A_WAIT && HELPED && !late[r])
+#define LEAVES(r) (!GOES_ON_WAITING(r) && HELPED && !late[r])
 #endif
 #ifdef LEFT_UNSEEN
 #define IS_LEFT(r) (next_of > 0 && kind[r] != A_WAIT)

@@ -133,10 +133,11 @@ static int32_t find_next(struct wz_combiner *combiner) {
 
 /* Whether a rank leaves combinations to those who wait and to progress threads. One that waits doesn't, nor one that
    has found too often that the called one hadn't come: that one's thread may get no processor, or never find the lock
-   free beside ranks that test again and again. */
-static bool leaves_work(struct wz_combiner *combiner, const struct record *me) {
-    bool is_helped = combiner->waiting > 0 || (load(&combiner->helpers) > 0 && !combiner->is_short);
-    return me->operation->answered != WAITS && is_helped && me->late < WZ_LOOKS;
+   free beside ranks that test again and again. Beside progress threads one whose wait is over leaves them too. */
+static bool leaves_work(struct wz_combiner *combiner, struct record *me) {
+    bool has_helpers = load(&combiner->helpers) > 0 && !combiner->is_short;
+    bool waits = me->operation->answered == WAITS && !(has_helpers && load(&me->stage) == ANSWERED);
+    return !waits && (combiner->waiting > 0 || has_helpers) && me->late < WZ_LOOKS;
 }
 
 /* Makes actions up to the next combination, which its thread is to compute with the lock free, or leaves. A combination
