@@ -1,6 +1,7 @@
 """Whether wzrun is called as mpirun is, and wzcc as mpicc: for check.py."""
 
 import os
+import pathlib
 import shutil
 import subprocess
 
@@ -160,7 +161,7 @@ def check_words(binaries, program):
     for words, variables, status, text in wanted:
         got, said = run([wzrun, *words], env={**os.environ, **variables})
         failed += reported(got == status and (text is None or said == text), f"wzrun {words}, {variables}: status {got}:\n{said}and not {status}:\n{text}")
-    return failed
+    return failed + check_progress(binaries, pathlib.Path(program).parent)
 
 
 def check_large_pages(binaries, folder):
@@ -194,9 +195,10 @@ def check_kept_blocks(binaries, folder):
     return reported(0 <= many["own"] < 60 and many["the user's"] > 100, f"fresh pages of an allreduce of 512 KiB: {many}")
 
 
-def check_progress(binaries, program):
+def check_progress(binaries, folder):
     """--progress N adds N threads, which change no value."""
     wzrun, failed, threads = str(binaries / "wzrun"), 0, {}
+    program = str(compiled(binaries, written(folder / "threads.c", THREADS), folder / "threads"))
     for many in range(9):
         status, said = run([wzrun, "-n", "3", "--progress", str(many), program])
         threads[many] = int(said) if status == 0 and said.strip().isdigit() else None
@@ -288,8 +290,7 @@ def check(binaries, out):
     folder = out / "calling.d"
     folder.mkdir()
     program = str(compiled(binaries, written(folder / "given.c", GIVEN), folder / "given"))
-    failed = check_progress(binaries, str(compiled(binaries, written(folder / "threads.c", THREADS), folder / "threads")))
-    failed += check_words(binaries, program) + check_large_pages(binaries, folder) + check_kept_blocks(binaries, folder) + check_colours(binaries, program) + check_help(binaries)
+    failed = check_words(binaries, program) + check_large_pages(binaries, folder) + check_kept_blocks(binaries, folder) + check_colours(binaries, program) + check_help(binaries)
     failed += check_compilers(binaries, folder) + check_cmake(binaries, folder) + check_spaces(binaries, folder)
     print("check.py: the tools are called as mpirun and mpicc are" if failed == 0 else f"check.py: {failed} ways to call the tools failed")
     return failed
