@@ -20,7 +20,7 @@ import time
 
 HERE = os.path.dirname(os.path.abspath(__file__))
 MEBIBYTES = 3000
-THREE, TWO = "RANKS=3", "COLLECTIVES=2"
+THREE, TWO, HELPED = "RANKS=3", "COLLECTIVES=2", "HELPERS=1"
 # how a configuration came out: as it must, otherwise, or with no result, since its search was cut off or couldn't begin
 RIGHT, WRONG, OPEN = "ok", "WRONG", "OPEN"
 # whether it must hold, whether every run must end (else: no run ends but as it must), the name, the program and its flags
@@ -48,16 +48,16 @@ CONFIGURATIONS = [
     (True, False, "absentee, 2 ranks, long", f"ABSENTEE {TWO} LONG"),
     (True, False, "absentee, 3 ranks", f"ABSENTEE {THREE} {TWO} COMBINATIONS=1 COARSE"),
     (True, False, "absentee, 3 ranks, long", f"ABSENTEE {THREE} {TWO} LONG COMBINATIONS=1 COARSE"),
-    (True, False, "computes, 2 ranks, helped", "COMPUTES HELPERS=1 COARSE"),
-    (True, False, "computes, 2 ranks, long, helped", "COMPUTES LONG HELPERS=1 COARSE"),
-    (True, False, "computes, 2 ranks, long, chained, helped", "COMPUTES LONG CHAINED HELPERS=1 COARSE"),
-    (True, False, "computes, 3 ranks, long, helped", f"COMPUTES {THREE} LONG COMBINATIONS=1 COARSE HELPERS=1"),
-    (True, False, "one, 2 ranks, long, helped", "ONE LONG HELPERS=1 COARSE"),
-    (True, False, "some poll, 2 ranks, long, helped", "SOME_POLL LONG HELPERS=1 COARSE"),
-    (True, False, "leaver, 2 ranks, long, helped", "LEAVER LONG HELPERS=1 COARSE"),
-    (True, False, "crossed, 2 ranks, long, helped", f"CROSSED {TWO} LONG COMBINATIONS=1 COARSE HELPERS=1"),
-    (True, False, "absentee, 2 ranks, long, helped", f"ABSENTEE {TWO} LONG COMBINATIONS=1 COARSE HELPERS=1"),
-    (True, True, "computes ends, 2 ranks, long, helped", "COMPUTES LONG COMBINATIONS=1 HELPERS=1 COARSE"),
+    (True, False, "computes, 2 ranks, helped", f"COMPUTES {HELPED} COARSE"),
+    (True, False, "computes, 2 ranks, long, helped", f"COMPUTES LONG {HELPED} COARSE"),
+    (True, False, "computes, 2 ranks, long, chained, helped", f"COMPUTES LONG CHAINED {HELPED} COARSE"),
+    (True, False, "computes, 3 ranks, long, helped", f"COMPUTES {THREE} LONG COMBINATIONS=1 COARSE {HELPED}"),
+    (True, False, "one, 2 ranks, long, helped", f"ONE LONG COMBINATIONS=1 {HELPED} COARSE"),
+    (True, False, "some poll, 2 ranks, long, helped", f"SOME_POLL LONG COMBINATIONS=1 {HELPED} COARSE"),
+    (True, False, "leaver, 2 ranks, long, helped", f"LEAVER LONG COMBINATIONS=1 {HELPED} COARSE"),
+    (True, False, "crossed, 2 ranks, long, helped", f"CROSSED {TWO} LONG COMBINATIONS=1 COARSE {HELPED}"),
+    (True, False, "absentee, 2 ranks, long, helped", f"ABSENTEE {TWO} LONG COMBINATIONS=1 COARSE {HELPED}"),
+    (True, True, "computes ends, 2 ranks, long, helped", f"COMPUTES LONG COMBINATIONS=1 {HELPED} COARSE"),
     (True, True, "one ends, 2 ranks", "ONE"),
     (True, True, "one ends, 2 ranks, long", "ONE LONG"),
     (True, True, "leaver ends, 2 ranks, long", "LEAVER LONG"),
@@ -74,9 +74,9 @@ CONFIGURATIONS = [
     (False, False, "left unseen", "LEAVER LONG LEFT_UNSEEN"),
     (False, True, "never late", "SOME_POLL LONG NEVER_LATE"),
     (False, False, "gone twice", "RETURNS GONE_TWICE"),
-    (False, False, "a helper counts", f"CROSSED {TWO} LONG COMBINATIONS=1 HELPERS=1 HELPER_COUNTS"),
-    (False, False, "a helper is unserved", "COMPUTES LONG HELPERS=1 HELPER_UNSERVED"),
-    (False, False, "a helper is unseen", "COMPUTES LONG HELPERS=1 HELPER_UNSEEN"),
+    (False, False, "a helper counts", f"CROSSED {TWO} LONG COMBINATIONS=1 {HELPED} HELPER_COUNTS"),
+    (False, False, "a helper is unserved", f"COMPUTES LONG {HELPED} HELPER_UNSERVED"),
+    (False, False, "a helper is unseen", f"COMPUTES LONG {HELPED} HELPER_UNSEEN"),
 ]
 
 
@@ -137,7 +137,7 @@ def main():
     asked = words.parse_args()
     wanted = [c for c in CONFIGURATIONS if not asked.names or any(word in c[2] for word in asked.names)]
     if asked.quick:
-        wanted = [c for c in wanted if not (c[0] and THREE in c[3])]
+        wanted = [c for c in wanted if not (c[0] and (THREE in c[3] or HELPED in c[3]))]
     came = []
     with concurrent.futures.ThreadPoolExecutor(asked.jobs) as pool:
         for line, how in pool.map(lambda it: judged(it, asked.seconds), wanted):
