@@ -8,7 +8,7 @@
 #include <string.h>
 #include <time.h>
 
-enum { MOST_COLLECTIVES = 32, MOST_SAMPLES = 2000, WORDS = 32768, CHUNK = 128, CALIBRATION = 1000 };
+enum { MOST_COLLECTIVES = 32, MOST_SAMPLES = 2000, WORDS = 32768, CHUNK = 128, CALIBRATION = 100 };
 
 struct plan {
     bool by_work;
@@ -110,7 +110,7 @@ static void measure_one(struct rank *rank, struct samples *samples, const struct
     struct computing nothing = { plan->by_work, 0, 0 }, chunks = { true, CALIBRATION, 0 };
     int64_t median[PARTS];
     int many = samples_of(collective->bytes);
-    int64_t chunk = slowest(rank, samples, 30, NULL, chunks, COMPUTING) / CALIBRATION;
+    int64_t chunk = slowest(rank, samples, 300, NULL, chunks, COMPUTING) / CALIBRATION;
     int64_t unit = plan->by_work && chunk > 0 ? chunk : 1;
     int64_t pure = slowest(rank, samples, many, collective, nothing, TOTAL);
     int64_t between = plan->between_tests / unit;

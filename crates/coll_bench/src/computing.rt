@@ -2,11 +2,11 @@
 
 use std::alloc::{AllocError, Global};
 
-/// How many words a rank computes on: 256 KiB, which the second cache of a processor holds.
-const WORDS: usize = 32_768;
+/// The rows of words that a rank computes on: 256 KiB in all, which the second cache of a processor holds.
+const ROWS: usize = 256;
 
-/// The words of one chunk of work, which takes a fraction of a microsecond.
-const CHUNK: usize = 128;
+/// The words of a row. A chunk of work is one row, which takes a fraction of a microsecond.
+const WORDS: usize = 128;
 
 /// By what the length of a computation is counted.
 #[derive(Clone, Copy, Debug, PartialEq, Eq)]
@@ -49,28 +49,31 @@ impl Computing {
 /// The words that a rank computes on.
 #[derive(Drop)]
 pub struct OwnWords {
-    words: Vec<u64>,
+    rows: Vec<Vec<u64>>,
     next: usize,
 }
 
 impl OwnWords {
     pub fn new(alloc: Global) -> Result<Self, AllocError> {
-        Ok(OwnWords {
-            words: vec![in alloc; 1; WORDS]?,
-            next: 0,
-        })
+        let mut rows = Vec::with_capacity(alloc, ROWS)?;
+        for _row in 0..ROWS {
+            rows.push(vec![in alloc; 1; WORDS]?)?;
+        }
+        Ok(OwnWords { rows, next: 0 })
     }
 
     /// Computes one chunk: each word depends on the word before.
     pub fn compute(&mut self) {
-        let mut carried = 1u64;
-        for word in self.words.iter_mut().skip(self.next).take(CHUNK) {
-            carried = carried
-                .wrapping_mul(6_364_136_223_846_793_005)
-                .wrapping_add(*word);
-            *word = carried;
+        if let Some(row) = self.rows.get_mut(self.next) {
+            let mut carried = 1u64;
+            for word in row.iter_mut() {
+                carried = carried
+                    .wrapping_mul(6_364_136_223_846_793_005)
+                    .wrapping_add(*word);
+                *word = carried;
+            }
         }
-        let after = self.next.wrapping_add(CHUNK);
-        self.next = if after < WORDS { after } else { 0 };
+        let after = self.next.wrapping_add(1);
+        self.next = if after < ROWS { after } else { 0 };
     }
 }

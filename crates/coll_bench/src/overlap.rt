@@ -15,7 +15,7 @@ use std::sync::Wait;
 use std::thread::Threads;
 
 /// The chunks of the samples by which the time of a chunk is found.
-const CALIBRATION: u64 = 1_000;
+const CALIBRATION: u64 = 100;
 
 /// What is timed.
 #[derive(Clone, Copy, Debug)]
@@ -93,11 +93,11 @@ fn chunk_nanoseconds<R: Threads + Wait + Clock + Sync>(
 ) -> Result<u64, Refusal> {
     let chunks = Computing::lasting(Measured::Work, CALIBRATION, 0, 1);
     let calibration = OverlapTask {
-        samples: 30,
+        samples: 300,
         ..task(overlap, false, chunks)
     };
     let computed = run_task(rt, alloc, overlap.threads.workers, calibration)?;
-    Ok(computed.computing / CALIBRATION)
+    Ok(computed.computing.checked_div(CALIBRATION).unwrap_or(0))
 }
 
 /// Prints nanoseconds of the slowest rank's medians: `pure`, the collective alone; `alone`, the computation alone; then of both
@@ -135,10 +135,8 @@ pub fn time<R: Threads + Wait + Clock + Print + Sync>(
 pub fn run<R: Threads + Wait + Clock + Print + Sync>(rt: &R, alloc: Global) -> anyhow::Result<()> {
     for kind in [Kind::Allreduce, Kind::Bcast, Kind::Alltoall, Kind::Barrier] {
         for measured in [Measured::Clock, Measured::Work] {
-            let collective = Collective {
-                kind,
-                bytes: 65_536,
-            };
+            let bytes = if kind == Kind::Barrier { 0 } else { 65_536 };
+            let collective = Collective { kind, bytes };
             let once = OverlapTask {
                 collective,
                 ranks: 2,

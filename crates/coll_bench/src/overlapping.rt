@@ -78,7 +78,8 @@ impl Samples {
         self.post.push(parts.post)?;
         self.computing.push(parts.computing)?;
         self.wait.push(parts.wait)?;
-        self.total.push(parts.total)
+        self.total.push(parts.total)?;
+        Ok(())
     }
 
     fn medians(self) -> Parts {
