@@ -3,15 +3,17 @@
 
 use coll_run::run_job;
 use coll_shared::Gate;
+use std::sync::Wait;
 use std::sync::atomic::{AtomicU64, Ordering};
-use std::sync::{Condvar, Mutex, Wait};
 use std::test::Fail;
+use std::thread;
 use std::time::{Clock, Duration};
 
-/// How many times a held piece looks, and how long it waits at most between two looks.
-const LOOKS: u32 = 500;
+/// How many times a held piece looks, and how long it sleeps between two looks. This is long enough for a third thread to come
+/// to its turn even if all processors of the machine are busy.
+const TURNS: u32 = 3_000;
 
-const LOOK_IN_MILLIS: u64 = 10;
+const NAP_IN_MILLIS: u64 = 10;
 
 const THREE_SUMS: (&str, &str) = (
     "ranks 2\nrank 0\npost 0 allreduce sum i32 1 : 1\npost 0 allreduce sum i32 1 : 10\n\
@@ -26,9 +28,7 @@ const THREE_SUMS: (&str, &str) = (
 struct HeldPieces<'r, R> {
     rt: &'r R,
     /// A bit for each of the first 64 pieces, set once the piece has ended.
-    ends: Mutex<u64>,
-    /// Some piece has ended.
-    changed: Condvar,
+    ends: AtomicU64,
     /// The number of pieces that were held in vain.
     missed: AtomicU64,
 }
@@ -38,28 +38,30 @@ fn has(ends: u64, piece: u64) -> bool {
     piece < 64 && ends & 1u64.wrapping_shl(piece as u32) != 0
 }
 
+impl<R: Clock> HeldPieces<'_, R> {
+    fn has_ended(&self, piece: u64) -> bool {
+        has(self.ends.load(Ordering::SeqCst), piece)
+    }
+}
+
 impl<R: Wait + Clock> Gate for HeldPieces<'_, R> {
     fn before(&self, piece: u64) {
         if piece >= 2 {
             return;
         }
-        let mut ends = self.ends.lock(self.rt);
-        for _look in 0..LOOKS {
-            if has(*ends, 2) {
+        for _turn in 0..TURNS {
+            if self.has_ended(2) {
                 return;
             }
-            let wait = Duration::from_millis(LOOK_IN_MILLIS);
-            let (next, _) = self.changed.wait_timeout(self.rt, ends, wait);
-            ends = next;
+            let _ = thread::sleep(self.rt, Duration::from_millis(NAP_IN_MILLIS));
         }
         self.missed.fetch_add(1, Ordering::SeqCst);
     }
 
     fn after(&self, piece: u64) {
         if piece < 64 {
-            let mut ends = self.ends.lock(self.rt);
-            *ends |= 1u64.wrapping_shl(piece as u32);
-            self.changed.notify_all();
+            self.ends
+                .fetch_or(1u64.wrapping_shl(piece as u32), Ordering::SeqCst);
         }
     }
 }
@@ -69,14 +71,12 @@ fn three_sums_at_one_time(rt: HostRuntime) -> Result<(), Fail> {
     let (text, wanted) = THREE_SUMS;
     let gate = HeldPieces {
         rt: &rt,
-        ends: Mutex::new(0),
-        changed: Condvar::new(),
+        ends: AtomicU64::new(0),
         missed: AtomicU64::new(0),
     };
     let (lines, _) = run_job(&rt, rt.alloc(), text.as_bytes(), 2, &gate)?;
     assert!(rt; lines.as_slice() == wanted.as_bytes());
     assert!(rt; gate.missed.load(Ordering::SeqCst) == 0);
-    let ends = *gate.ends.lock(&rt);
-    assert!(rt; ends & 7 == 7);
+    assert!(rt; gate.ends.load(Ordering::SeqCst) & 7 == 7);
     Ok(())
 }
