@@ -81,7 +81,7 @@ enum { TRIES = 16, IN_VAIN = 3 };
 /* A progress thread that finds no more work looks for so long, in nanoseconds, before it sleeps, where there is a
    processor for each rank and each progress thread. */
 #ifndef WZ_LINGER
-#define WZ_LINGER 50000
+#define WZ_LINGER 0
 #endif
 
 /* ---- operations */
