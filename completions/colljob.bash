@@ -46,11 +46,12 @@ _colljob() {
                 --stats) _colljob_files; return ;;
                 --timeline) _colljob_files; return ;;
                 --picture) _colljob_files; return ;;
+                --html) _colljob_files; return ;;
                 --format) _colljob_words 'text json'; return ;;
                 --out) _colljob_files; return ;;
             esac
             takes_job=1
-            options='--workers -q --quiet --explain --trace --stats --timeline --picture --format --out -h --help'
+            options='--workers -q --quiet --explain --trace --stats --timeline --picture --html --format --out -h --help'
             ;;
         'plain')
             takes_job=1
@@ -60,9 +61,10 @@ _colljob() {
             case "$before" in
                 --format) _colljob_words 'text json dot'; return ;;
                 --color) _colljob_words 'auto always never'; return ;;
+                --html) _colljob_files; return ;;
             esac
             takes_job=1
-            options='--format --color --strict --all -h --help'
+            options='--format --color --strict --all --html -h --help'
             ;;
         'check')
             case "$before" in

@@ -130,7 +130,7 @@ def parser_of_page():
     parser.add_argument("--status", type=int, help="the program's status")
     parser.add_argument("--title", help="the page's first line")
     parser.add_argument("out", metavar="OUT", help="the page")
-    parser.add_argument("command", nargs=argparse.REMAINDER, metavar="COMMAND", help="in place of files: `wzrun ..`, `colljob run ..` or `colljob explain ..`, which is run as it is; the status is its own")
+    parser.add_argument("command", nargs=argparse.REMAINDER, metavar="COMMAND", help="in place of files: `wzrun ..`, which is run as it is; the status is its own")
     return parser
 
 

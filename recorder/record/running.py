@@ -1,4 +1,4 @@
-"""The page of a command of wzrun or colljob: it is run as it is, with its timeline and tables in files that are gone afterwards."""
+"""The page of a command of wzrun: it is run as it is, with its timeline and tables in files that are gone afterwards."""
 
 import os
 import subprocess
@@ -15,17 +15,13 @@ TABLES = b"wzrun: collectives that were posted"
 
 def page_of_command(command, title=None):
     """Runs a command, and gives its status with its page."""
-    name, what = os.path.basename(command[0]), command[1:2]
+    name = os.path.basename(command[0])
+    if name == "colljob":
+        raise Impossible("colljob makes its pages itself: `colljob run --html OUT ..` and `colljob explain --html OUT ..`")
+    if name != "wzrun":
+        raise Impossible(f"{name}: a page is made of `wzrun ..`")
     with tempfile.TemporaryDirectory(prefix="wzrecord-") as folder:
-        if name == "colljob" and what == ["run"]:
-            status, files = run_colljob(command, folder)
-        elif name == "colljob" and what == ["explain"]:
-            status, files = explain(command, folder)
-        elif name == "wzrun":
-            status, files = run_wzrun(command, folder)
-        else:
-            raise Impossible(f"{' '.join(command[:2])}: a page is made of `wzrun ..`, `colljob run ..` and `colljob explain ..`")
-        files = {key: path if path and os.path.exists(path) else None for key, path in files.items()}
+        status, files = run_wzrun(command, folder)
         return status, page_of_files(title or " ".join([name, *command[1:]]), status=status, **files)
 
 
@@ -64,24 +60,3 @@ def run_wzrun(command, folder):
         with open(files[key], "wb") as file:
             file.writelines(lines)
     return status, files
-
-
-def run_colljob(command, folder):
-    files = {"timeline": os.path.join(folder, "timeline"), "tables": os.path.join(folder, "tables"), "explained": os.path.join(folder, "explained")}
-    own = [word for name, key in (("--timeline", "timeline"), ("--stats", "tables")) for word in (name, files[key])]
-    status = ended(started(command[:2] + own + command[2:]))
-    texts = [word for word in command[2:] if os.path.isfile(word)]
-    if status == 3 and texts:
-        keep_explained(command[0], texts[-1:], files["explained"])
-    return status, files
-
-
-def explain(command, folder):
-    files = {"explained": os.path.join(folder, "explained")}
-    keep_explained(command[0], [word for word in command[2:] if not word.startswith("--format")], files["explained"])
-    return ended(started(command)), files
-
-
-def keep_explained(colljob, words, path):
-    with open(path, "wb") as file:
-        ended(started([colljob, "explain", "--format", "json", *words], stdout=file))

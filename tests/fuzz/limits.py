@@ -19,7 +19,7 @@ LONE = "ranks 1\nrank 0\npost 0 allreduce sum i32 2 : 4 5\ninit 0 barrier\nstart
 CROSSED = "ranks 2\ncomm 0 1\n" + "rank 0\npost 0 barrier\nwait 0\npost 1 barrier\nrank 1\npost 1 barrier\nwait 0\npost 0 barrier\n"
 # A gather's other member waits for nobody here, and may wait with another library.
 AHEAD = "# Rank 1 gives to a gather and goes on: its part is done, but a library may let it wait for rank 0.\nranks 2\ncomm 1 0\nrank 0\npost 1 barrier\nwait 0\npost 0 gather 0 u8 1 : 1\nrank 1\npost 0 gather 0 u8 1 : 2\nwait 0\npost 1 barrier\n"
-FILES = ("--trace", "--stats", "--picture", "--timeline", "--out")
+FILES = ("--trace", "--stats", "--picture", "--timeline", "--html", "--out")
 
 
 class Checks:
@@ -94,12 +94,21 @@ def check_options(program, checks):
             if there == ["file"]:
                 with open(os.path.join(alone, "file"), encoding="utf-8") as file:
                     text = file.read()
-            is_same = text == texts[option] if option != "--timeline" else bool(text) and untimed(text) == untimed(texts[option])
+            same = {"--timeline": untimed, "--html": untimed_page}.get(option, str)
+            is_same = bool(text) and same(text) == same(texts[option])
             is_right = there == ["file"] and is_same and said == (0, printed, "")
             checks.one(f"{option} alone", is_right, (said, there, text[:200]))
             for name in there:
                 os.remove(os.path.join(alone, name))
             os.rmdir(alone)
+
+
+def untimed_page(text):
+    """A page with the events of its timeline as `untimed` has them."""
+    begin, _, rest = text.partition('id="data">')
+    data, _, end = rest.partition("</script>")
+    values = json.loads(data)
+    return begin, {**values, "timeline": untimed(values["timeline"])}, end
 
 
 def check_words(program, checks):

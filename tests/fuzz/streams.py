@@ -5,6 +5,7 @@ The cases that no test of the gate can make, since they need a process with stre
 error goes to is refused by whatever name, and keeps what it had; terminals and pipes get what is named in order; a full device and a folder are reported
 in the system's words; and where the reader of a pipe has gone nothing is reported. Ends with 1 where something else is seen.
 """
+import json
 import os
 import pathlib
 import pty
@@ -16,6 +17,7 @@ TEXT = "ranks 2\nrank 0\npost 0 allreduce sum i32 1 : 1\nrank 1\npost 0 allreduc
 STALL = "ranks 2\ncomm 0 1\nrank 0\npost 0 barrier\nwait 0\npost 1 barrier\nrank 1\npost 1 barrier\nwait 0\npost 0 barrier\n"
 LINES = "rank 0 req 0 start 0 : 3\nrank 1 req 0 start 0 : 3\n"
 OUTPUT_GOES = "standard output goes to this file, so name another one\n"
+NEVER = "never stalls, in any run, with any MPI library (proved)\n"
 ERRORS_GO = "standard error goes to this file, so name another one\n"
 
 
@@ -46,7 +48,7 @@ class Tries:
 
 
 def own_streams(tries):
-    for option in ["--stats", "--trace", "--out", "--picture", "--timeline"]:
+    for option in ["--stats", "--trace", "--out", "--picture", "--timeline", "--html"]:
         for name in ["/dev/stdout", "/proc/self/fd/1", "own.txt"]:
             seen = tries.shell(f"P run {option} {name} sum.job >own.txt; s=$?; cat own.txt; exit $s")
             tries.want(f"{option} {name} >own.txt", seen, (1, "", f"{name}: {OUTPUT_GOES}"))
@@ -60,6 +62,10 @@ def own_streams(tries):
     tries.want("draw --out", seen, (1, "", f"/dev/stdout: {OUTPUT_GOES}"))
     seen = tries.shell("P run --explain /dev/stdout stall.job >own.txt; s=$?; cat own.txt; exit $s")
     tries.want("run --explain", seen, (1, "", f"stall.job: stalled\n/dev/stdout: {OUTPUT_GOES}"))
+    seen = tries.shell("P run --html /dev/stdout stall.job >own.txt; s=$?; cat own.txt; exit $s")
+    tries.want("run --html of a deadlock", seen, (1, "", f"stall.job: stalled\n/dev/stdout: {OUTPUT_GOES}"))
+    seen = tries.shell("P explain --html /dev/stdout stall.job >own.txt; s=$?; cat own.txt; exit $s")
+    tries.want("explain --html", seen, (1, "", f"/dev/stdout: {OUTPUT_GOES}"))
     seen = tries.shell("P run --out /dev/stdout sum.job | cat")
     tries.want("a pipe gets both in order", seen, (0, LINES + LINES, ""))
     seen = tries.shell("P run --out /dev/null sum.job >/dev/null")
@@ -85,6 +91,9 @@ def faults(tries):
     for words in ["run sum.job", "plain sum.job", "explain sum.job", "draw barrier --members 2", "--help", "check --format json sum.job"]:
         tries.want(f"{words} >/dev/full", tries.shell(f"P {words} >/dev/full"), (1, "", full))
         tries.want(f"{words} | true", tries.to_nobody(words), (1, ""))
+    full_file = "/dev/full: No space left on device (os error 28)\n"
+    for words in ["run --html /dev/full sum.job", "explain --html /dev/full stall.job"]:
+        tries.want(words, tries.shell(f"P {words}"), (1, "", full_file))
     folder = "read fault: Is a directory (os error 21)\n"
     tries.want("a folder as standard input", tries.shell("P plain <."), (1, "", folder))
     closed = "read fault: Bad file descriptor (os error 9)\n"
@@ -108,6 +117,19 @@ def kept(tries):
     tries.want("nothing is left beside it", tries.shell("ls | grep part"), (1, "", ""))
 
 
+def apart(tries):
+    """Of a text that isn't all of its program no verdict is given without saying so."""
+    pathlib.Path("apart.job").write_text("ranks 1\n# by themselves: 4 messages aren't here\nrank 0\n")
+    pathlib.Path("whole.job").write_text("ranks 1\n# it stands here # by themselves: \nrank 0\n")
+    note = "apart.job: note: more of the program isn't in this text: what follows is said of its collectives by themselves\n"
+    tries.want("check of a text with messages", tries.shell("P check apart.job"), (0, "", f"apart.job: no fault\n{note}{NEVER}"))
+    tries.want("check of one without", tries.shell("P check whole.job"), (0, "", f"whole.job: no fault\n{NEVER}"))
+    tries.want("explain of a text with messages", tries.shell("P explain apart.job"), (0, NEVER, note))
+    tries.want("explain of one without", tries.shell("P explain whole.job"), (0, NEVER, ""))
+    status, lines, told = tries.shell("P check --format json apart.job")
+    tries.want("check as JSON", (status, [json.loads(line)["reason"] for line in lines.splitlines()], told), (0, ["checked", "note", "explained"], ""))
+
+
 def main():
     tries = Tries(sys.argv[1])
     with tempfile.TemporaryDirectory() as folder:
@@ -118,6 +140,7 @@ def main():
         on_a_terminal(tries)
         faults(tries)
         kept(tries)
+        apart(tries)
         os.chdir("/")
     print(f"{tries.count - tries.failed} of {tries.count} as wanted")
     sys.exit(tries.failed > 0)

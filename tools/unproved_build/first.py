@@ -17,7 +17,7 @@ KEPT = ["host", "keeping", "opening", "progress", "screen"]
 CUT = {
     "tasks": ["run", "run_on", "do_parsed", "help", "show", "BAD_WORDS"],
     "answering": ["write_answer"],
-    "carrying_out": ["run_recorded", "draw_run", "draw_recorded", "is_explained", "EXPLAINED"],
+    "carrying_out": ["run_recorded", "draw_run", "draw_recorded"],
     "machine": ["main_of"],
 }
 

@@ -87,7 +87,7 @@ Says-read form name (Some input) text status lines read says =
     (go (meaning text) says)
   where
     none : ReportsNone form name text status lines → ReportsNone form name input status lines
-    none reports = (reports.0, reports.1, true-read (Some input) text (explained_as form) status reports.0 read reports.2)
+    none reports = (reports.0, reports.1, reports.2, true-read (Some input) text (explained_as form) status reports.0 read reports.3)
 
     go : (m : Result (List ℕ) Fault) → MatchResult m (λ outcomes. ReportsNone form name text status lines) (λ fault. ReportsFault form name fault lines)
         → MatchResult m (λ outcomes. ReportsNone form name input status lines) (λ fault. ReportsFault form name fault lines)

@@ -1,2 +1,3 @@
 pub mod Answering
 pub mod Following
+pub mod Marking

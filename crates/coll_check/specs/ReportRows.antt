@@ -4,7 +4,7 @@ use Rattle.std.specs.Fmt.{digits}
 use Rattle.coll_parser.specs.declared.cause.Cause.TheVariants.{BadValue, PlaceMissing}
 use Rattle.coll_parser.specs.declared.fault.Fault.{Fault}
 use Rattle.coll_check.specs.declared.checking.CheckForm.TheVariants.{Text, Json}
-use Rattle.coll_check.specs.Reports.{count_line, fault_line, object_head, report_end, report_head}
+use Rattle.coll_check.specs.Reports.{count_line, fault_line, fault_mark, is_marked, object_head, report_end, report_head}
 
 abbrev pub bad_value : Fault
 bad_value = record { line = 12; cause = BadValue }
@@ -33,3 +33,13 @@ two_are_counted = refl
 two_in_json : report_end Json (codes "a.job") 2 false ≡ codes "{\"reason\":\"checked\",\"faults\":2,\"cut\":false,\"status\":2}\n"
 unfolding digits
 two_in_json = refl
+
+-- lines that report a fault, also below others, and lines that don't
+a_report_is_marked : is_marked (fault_mark false) (codes "line 3: bad value\n") ≡ true
+a_report_is_marked = refl
+
+a_later_one_is : is_marked (fault_mark true) (27 ∷ (codes "[1;34m |\n" ++ 27 ∷ codes "[1;31mline 3")) ≡ true
+a_later_one_is = refl
+
+another_line_is_not : is_marked (fault_mark false) (codes " --> a.job:3:1\n3 | line 3\n") ≡ false
+another_line_is_not = refl

@@ -1,6 +1,8 @@
 -- How the faults of a text are reported: each by its line and the words of its cause, and their number at the end.
-use Rattle.std.specs.Prelude.{◌≡◌, ◌++◌, ◌==◌, ℕ, [], ◌∷◌, Bool, true, false, List, codes, length, map, if◌then◌else◌}
+use Rattle.std.specs.Prelude.{◌≡◌, ◌++◌, ◌==◌, ◌&&◌, ◌||◌, ℕ, [], ◌∷◌, Bool, true, false, List, codes, length, map, if◌then◌else◌}
+use Rattle.std.specs.List.{list_any, starts_with}
 use Rattle.std.specs.Fmt.{decimal}
+use Rattle.coll_parser.specs.Cutting.{is_line_feed}
 use Rattle.coll_parser.specs.declared.fault.Fault.{Fault}
 use Rattle.coll_faults.specs.declared.faults.Faults.{Faults}
 use Rattle.coll_faults.specs.declared.finding.Finding.{Finding}
@@ -36,9 +38,35 @@ abbrev pub report_head : CheckForm → Fault → List ℕ
 report_head (Text colored) fault = fault_line colored fault
 report_head Json fault = object_head fault
 
+-- how the line for a reader begins that reports any fault
+abbrev pub fault_mark : Bool → List ℕ
+fault_mark colored = paint_of_fault colored ++ codes "line "
+
+-- these bytes begin with the mark
+abbrev pub begins_with : List ℕ → List ℕ → Bool
+begins_with mark bytes = starts_with (λ (a b : ℕ). a == b) bytes mark
+
+-- the byte ends a line, and the mark begins the next one
+abbrev pub begins_line : List ℕ → ℕ → List ℕ → Bool
+begins_line mark byte rest = is_line_feed byte && begins_with mark rest
+
+-- a line after the first one begins with the mark
+abbrev pub is_marked_later : List ℕ → List ℕ → Bool
+is_marked_later mark [] = false
+is_marked_later mark (byte ∷ bytes) = begins_line mark byte bytes || is_marked_later mark bytes
+
+-- some line does
+abbrev pub is_marked : List ℕ → List ℕ → Bool
+is_marked mark bytes = begins_with mark bytes || is_marked_later mark bytes
+
+-- what is known of a fault reports no other one: no line of it begins as a report does, and what is known in JSON is in one line
+abbrev pub IsKnown : CheckForm → List ℕ → Type 0
+IsKnown (Text colored) known = is_marked (fault_mark colored) known ≡ false
+IsKnown Json known = list_any is_line_feed known ≡ false
+
 -- these bytes report it: after the head comes what is known of it, and a line feed
 abbrev pub IsReport : CheckForm → Fault → List ℕ → Type 0
-IsReport form fault bytes = (known : List ℕ) × (bytes ≡ report_head form fault ++ (known ++ codes "\n"))
+IsReport form fault bytes = (known : List ℕ) × (bytes ≡ report_head form fault ++ (known ++ codes "\n")) × IsKnown form known
 
 -- ---- all of them
 

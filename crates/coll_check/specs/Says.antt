@@ -1,5 +1,5 @@
 -- What is reported of a text that is checked.
-use Rattle.std.specs.Prelude.{◌≡◌, ◌++◌, ℕ, ◌∷◌, Bool, false, List, codes, MatchResult}
+use Rattle.std.specs.Prelude.{◌≡◌, ◌++◌, ℕ, [], ◌∷◌, Bool, true, false, List, codes, MatchResult}
 use Rattle.coll_parser.specs.declared.fault.Fault.{Fault}
 use Rattle.coll_script.specs.Meaning.{meaning}
 use Rattle.coll_diagnosis.specs.declared.explaining.ExplainOptions.{ExplainOptions}
@@ -27,11 +27,24 @@ abbrev pub faultless_head : CheckForm → List ℕ → ℕ → List ℕ
 faultless_head (Text colored) name status = name ++ codes ": no fault\n"
 faultless_head Json name status = checked_object 0 false status
 
--- that it has no fault, and then its explanation, whose verdict is true of the text and whose status is that of the check
+-- for a reader: that the text isn't all of its program
+abbrev pub apart_line : List ℕ → List ℕ
+apart_line name = name ++ codes ": note: more of the program isn't in this text: what follows is said of its collectives by themselves\n"
+
+-- what stands before the explanation of a text of that name that isn't all of its program
+abbrev pub apart_note : CheckForm → List ℕ → Bool → List ℕ
+apart_note form name false = []
+apart_note (Text colored) name true = apart_line name
+apart_note Json name true =
+    codes "{\"reason\":\"note\",\"message\":\"more of the program isn't in this text: what follows is said of its collectives by themselves\"}\n"
+
+-- that it has no fault, if need be that it isn't all of its program (which of its lines say so is only tested), and then its explanation,
+-- whose verdict is true of the text and whose status is that of the check
 abbrev pub ReportsNone : CheckForm → List ℕ → List ℕ → ℕ → List ℕ → Type 0
 ReportsNone form name text status lines =
     (explanation : List ℕ)
-    × (lines ≡ faultless_head form name status ++ explanation)
+    × (apart : Bool)
+    × (lines ≡ faultless_head form name status ++ (apart_note form name apart ++ explanation))
     × verdicts.IsTrueOf text (explained_as form) status explanation
 
 -- what is said of a text of that name, with that status

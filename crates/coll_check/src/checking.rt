@@ -8,8 +8,9 @@ ghost use Rattle.coll_script.specs.Plain.{HasCause, IsFaultOf};
 ghost use Rattle.coll_diagnosis.specs.Unstalled.{IsNoStall};
 ghost use Rattle.coll_diagnosis.specs.Verdicts.{IsStatus};
 ghost use Rattle.coll_check.specs.Checked.{IsCheckStatus, IsCheckFaultOf, IsCheckFault, IsSomeStatus, KeepsLines, WritesLines};
-ghost use Rattle.coll_check.specs.Says.{Says, ReportsFault, ReportsNone, explained_as, faultless_head};
+ghost use Rattle.coll_check.specs.Says.{Says, ReportsFault, ReportsNone, apart_note, explained_as, faultless_head};
 
+use crate::apart::{apart_note, is_apart};
 use crate::reporting::{checked_object, faults_report};
 use coll_diagnosis::{ExplainOptions, Form, explain_text};
 use coll_faults::Faults;
@@ -146,11 +147,36 @@ fn faultless(
     ensures unstalled { IfErr result IsNoStall }
 {
     let explained = explain_text(alloc, name, explained_as(form), text)?;
-    let mut lines = faultless_head(alloc, name, form, explained.status)?;
-    match lines.push_str(explained.lines.as_str()) {
-        Ok(()) => Ok((lines, explained.status)),
+    let head = faultless_head(alloc, name, form, explained.status)?;
+    match noted(
+        alloc,
+        name,
+        form,
+        is_apart(text),
+        head,
+        explained.lines.as_str(),
+    ) {
+        Ok(lines) => Ok((lines, explained.status)),
         Err(_) => Err(JobFault::Memory),
     }
+}
+
+/// The head of a report, a note on a text that isn't all of its program, and the explanation.
+fn noted(
+    alloc: Global,
+    name: &str,
+    form: CheckForm,
+    is_apart: bool,
+    head: String,
+    explanation: &str,
+) -> Result<String, AllocError>
+    ensures { IfOk result (λ lines. string_bytes lines ≡ string_bytes head ++ (apart_note form name.now is_apart ++ explanation.now)) }
+{
+    let mut lines = head;
+    let note = apart_note(alloc, name, form, is_apart)?;
+    lines.push_str(note.as_str())?;
+    lines.push_str(explanation)?;
+    Ok(lines)
 }
 
 /// How a text without a fault is explained.

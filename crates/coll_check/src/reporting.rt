@@ -1,9 +1,12 @@
 //! Reports the faults of a text: each by its line and the words of its cause, and their number at the end.
 
-ghost use Rattle.std.specs.Prelude.{◌≡◌, ◌++◌, codes, IfOk};
+ghost use Rattle.std.specs.Prelude.{◌≡◌, ◌<◌, ◌++◌, false, codes, length, IfOk};
+ghost use Rattle.std.specs.List.{list_any};
 ghost use Rattle.std.specs.String.{string_bytes};
-ghost use Rattle.coll_check.specs.Reports.{AreReports, IsReport, ReportsAll, checked_object, count_line, end_of_paint, fault_line, fault_noun};
-ghost use Rattle.coll_check.specs.Reports.{faults_in, object_head, paint_of_fault, report_end, report_head, unjudged};
+ghost use Rattle.coll_parser.specs.Cutting.{is_line_feed};
+ghost use Rattle.coll_check.specs.Reports.{AreReports, IsKnown, IsReport, ReportsAll, begins_line, checked_object, count_line, end_of_paint};
+ghost use Rattle.coll_check.specs.Reports.{fault_line, fault_mark, fault_noun, faults_in, is_marked, is_marked_later, object_head, paint_of_fault};
+ghost use Rattle.coll_check.specs.Reports.{report_end, report_head, unjudged};
 
 use crate::cause::words_of;
 use crate::checking::{CheckForm, FAULTY};
@@ -12,7 +15,7 @@ use crate::text_form::known_lines;
 use coll_faults::{Faults, Finding};
 use coll_parser::line_count;
 use coll_script::Fault;
-use coll_snippet::Source;
+use coll_snippet::{Source, has_line_feed};
 use std::alloc::{AllocError, Global};
 
 /// What is written of the faults of the text that has this name. The only error is refused memory.
@@ -79,8 +82,22 @@ impl Reporter<'_> {
         joined(self.alloc, head.as_str(), known.as_str())
     }
 
-    /// What is known of a fault, in the form of the report.
-    fn known(&self, finding: &Finding) -> Result<String, AllocError> {
+    /// What is known of a fault, in the form of the report, such that it reports no other fault.
+    fn known(&self, finding: &Finding) -> Result<String, AllocError>
+        ensures { IfOk result (λ known. IsKnown self.now.form (string_bytes known)) }
+    {
+        let known = self.details(finding)?;
+        match self.form {
+            CheckForm::Text { is_colored } => Ok(unmarked(
+                self.alloc,
+                fault_mark(is_colored),
+                known,
+            )),
+            CheckForm::Json => in_one_line(known),
+        }
+    }
+
+    fn details(&self, finding: &Finding) -> Result<String, AllocError> {
         match self.form {
             CheckForm::Text { is_colored } => known_lines(
                 self.alloc,
@@ -93,6 +110,67 @@ impl Reporter<'_> {
             CheckForm::Json => known_fields(self.alloc, &self.source, finding),
         }
     }
+}
+
+/// How the line for a reader begins that reports a fault.
+fn fault_mark(is_colored: bool) -> &'static str
+    ensures mark { result.now ≡ fault_mark is_colored }
+    ensures long { 0 < length result.now }
+{
+    if is_colored {
+        "\x1b[1;31mline "
+    } else {
+        "line "
+    }
+}
+
+/// These lines, or nothing where one of them begins with the mark of a report. Lines begin so only below a file's name with a line feed.
+#[tactic(auto, using(crate::proofs::Marking::none_marked))]
+fn unmarked(alloc: Global, mark: &str, lines: String) -> String
+    requires { 0 < length mark.now }
+    ensures { is_marked mark.now (string_bytes result) ≡ false }
+{
+    if is_marked(mark.as_bytes(), lines.as_str().as_bytes()) {
+        return String::new(alloc);
+    }
+    lines
+}
+
+/// Whether some line begins with the mark.
+fn is_marked(mark: &[u8], bytes: &[u8]) -> bool
+    ensures { result ≡ is_marked mark.now bytes.now }
+{
+    bytes.starts_with(mark) || is_marked_later(mark, bytes)
+}
+
+/// Whether some line after the first begins with the mark.
+#[tactic(auto, using(crate::proofs::Marking::marked_at))]
+fn is_marked_later(mark: &[u8], bytes: &[u8]) -> bool
+    ensures { result ≡ is_marked_later mark.now bytes.now }
+{
+    for (index, byte) in bytes.iter().enumerate() {
+        if begins_line(mark, *byte, &bytes[index + 1..]) {
+            return true;
+        }
+    }
+    false
+}
+
+/// Whether the byte ends a line, and the mark begins the next one.
+fn begins_line(mark: &[u8], byte: u8, rest: &[u8]) -> bool
+    ensures { result ≡ begins_line mark.now byte rest.now }
+{
+    byte == b'\n' && rest.starts_with(mark)
+}
+
+/// JSON without a line feed. No proof says that `serde_json` writes none.
+fn in_one_line(json: String) -> Result<String, AllocError>
+    ensures { IfOk result (λ line. list_any is_line_feed (string_bytes line) ≡ false) }
+{
+    if has_line_feed(json.as_str().as_bytes()) {
+        return Err(AllocError);
+    }
+    Ok(json)
 }
 
 /// The head of a report, and what follows it.

@@ -5,3 +5,5 @@ pub mod Heading
 pub mod Cutting
 -- from whom a member hears
 mod HearingRounds
+-- how the lines of ranks that wait follow one another
+mod Telling

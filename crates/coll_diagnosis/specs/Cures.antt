@@ -4,7 +4,7 @@ use Rattle.coll_parser.specs.Cutting.{is_line_feed}
 use Rattle.coll_script.specs.Meaning.{HasMeaning}
 use Rattle.coll_diagnosis.specs.declared.cure.Move.{Move}
 use Rattle.coll_diagnosis.specs.declared.verdict.Verdict.TheVariants.{Never}
-use Rattle.coll_diagnosis.specs.Verdicts.{MeansOf}
+use Rattle.coll_diagnosis.specs.Meanings.{MeansOf}
 
 -- ---- lines, each with the line feed that it ends in
 

@@ -1,6 +1,12 @@
 -- from whom the members of a collective hear
 pub mod Hearings
--- the exit status of a verdict, and what is reported of ranks that wait
+-- for whom completions wait in a reading
+pub mod Readings
+-- what a verdict means, and its exit status
+pub mod Meanings
+-- what JSON tells beside a verdict
+pub mod Details
+-- what an explanation says, and that it is true
 pub mod Verdicts
 -- which fault an explanation never ends in
 pub mod Unstalled

@@ -10,11 +10,10 @@ use crate::stuck::Stuck;
 use crate::verdict::is_never_shown;
 use coll_kinds::Refusal;
 use coll_script::{Script, ScriptFault};
-use serde::Serialize;
 use std::alloc::Global;
 
 /// A line that is moved to a place after a later one.
-#[derive(Clone, Copy, Debug, PartialEq, Eq, Serialize)]
+#[derive(Clone, Copy, Debug, PartialEq, Eq)]
 pub struct Move {
     pub rank: u8,
     pub line: u32,

@@ -6,7 +6,8 @@ ghost use Rattle.std.specs.String.{string_bytes};
 ghost use Rattle.coll_script.specs.Meaning.{HasMeaning};
 ghost use Rattle.coll_script.specs.Plain.{HasCause, IsFaultOf, IsInputFault};
 ghost use Rattle.coll_diagnosis.specs.Unstalled.{IsNoStall};
-ghost use Rattle.coll_diagnosis.specs.Verdicts.{Begins, EndsExplained, IsStatus, IsTrueOf, MeansOf, Says, heading};
+ghost use Rattle.coll_diagnosis.specs.Details.{IsFoundOf};
+ghost use Rattle.coll_diagnosis.specs.Verdicts.{Begins, EndsExplained, EndsTelling, IsStatus, IsTrueOf, MeansOf, Says, heading};
 
 use crate::dot_form::dot_form;
 use crate::explanation::Explanation;
@@ -68,7 +69,7 @@ pub fn explain_job<R: Read, W: Write>(
     // What was written, and nothing else, is an explanation with that status.
     ensures said { IfOk result
         (λ status. (lines : List ℕ) × Says options status lines × Appends (W.contents writer.old.stream.now) (W.contents writer.new.stream.now) lines) }
-    // The same, and the verdict that it names is true of the text.
+    // The same, and the verdict that it names is true of the text, as are the stall and the cure that JSON ends with.
     ensures verdict { IfOk result
         (λ status. (lines : List ℕ) × IfSome (R.remaining reader.old.reader.now) (λ text. IsTrueOf text options status lines)
         × Appends (W.contents writer.old.stream.now) (W.contents writer.new.stream.now) lines) }
@@ -101,7 +102,7 @@ pub fn explain_text(
     ensures meaning { OnOk result (HasMeaning text.now) }
     ensures status { IfOk result (λ explained. IsStatus explained.status) }
     ensures said { IfOk result (λ explained. Says options explained.status (string_bytes explained.lines)) }
-    // And the verdict that it names is true of the text.
+    // And the verdict that it names is true of the text, as are the stall and the cure that JSON ends with.
     ensures verdict { IfOk result (λ explained. IsTrueOf text.now options explained.status (string_bytes explained.lines)) }
     ensures faults { IfErr result (IsFaultOf text.now) }
     ensures unstalled { IfErr result IsNoStall }
@@ -116,6 +117,7 @@ pub fn explain_text(
 fn explained(alloc: Global, text: &[u8]) -> Result<Explanation, JobFault>
     ensures meaning { OnOk result (HasMeaning text.now) }
     ensures means { IfOk result (λ explanation. MeansOf text.now explanation.verdict) }
+    ensures found { IfOk result (λ explanation. IsFoundOf text.now explanation.verdict explanation.shown explanation.cure) }
     ensures faults { IfErr result (IsFaultOf text.now) }
     ensures unstalled { IfErr result IsNoStall }
 {
@@ -140,6 +142,8 @@ fn written(
     ensures refusal { IsOkUnless result JobFault.Memory }
     ensures words { IfOk result (λ lines. options.form ≡ Form.Text → Begins (heading explanation.now.verdict) (string_bytes lines)) }
     ensures object { IfOk result (λ lines. options.form ≡ Form.Json → EndsExplained explanation.now.verdict status (string_bytes lines)) }
+    ensures told { IfOk result
+        (λ lines. options.form ≡ Form.Json → EndsTelling explanation.now.verdict status explanation.now.shown explanation.now.cure (string_bytes lines)) }
 {
     let lines = match options.form {
         Form::Text => text_form(alloc, name, options, text, explanation).ok(),

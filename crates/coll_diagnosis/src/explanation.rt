@@ -1,4 +1,5 @@
-ghost use Rattle.std.specs.Prelude.{IfOk, IfSome};
+ghost use Rattle.std.specs.Prelude.{◌≡◌, IfOk, IfSome};
+ghost use Rattle.coll_diagnosis.specs.Readings.{waits_in_reading};
 ghost use Rattle.coll_diagnosis.specs.Standing.{IsShown, IsStandstill};
 
 use crate::course::{Choice, Course};
@@ -40,6 +41,7 @@ impl Explanation {
     ghost use Rattle.std.specs.Prelude.{◌≡◌, false, true, None, IfOk, IfSome, IsSome};
     ghost use Rattle.coll_diagnosis.specs.declared.verdict.Verdict.TheVariants.{Never};
     ghost use Rattle.coll_diagnosis.specs.Cures.{IsTried};
+    ghost use Rattle.coll_diagnosis.specs.Details.{waiting_of};
     ghost use Rattle.coll_diagnosis.specs.Standing.{IsShown};
     ghost use Rattle.coll_diagnosis.specs.Verdicts.{is_always_here, Means};
 
@@ -51,6 +53,8 @@ impl Explanation {
     pub fn of(alloc: Global, text: &[u8], script: &Script) -> Result<Explanation, Refusal>
         // What is shown is true of the commands of the text.
         ensures shown { IfOk result (λ e. IfSome e.shown (IsShown script.now)) }
+        // Completions wait there for those for whom they wait by the verdict.
+        ensures reading { IfOk result (λ e. IfSome e.shown (λ shown. shown.waiting ≡ waiting_of e.verdict)) }
         // What the verdict says of all runs is true.
         ensures means { IfOk result (λ e. Means e.verdict script.now) }
         ensures never { IfOk result (λ e. e.verdict ≡ Never → e.shown ≡ None) }
@@ -83,7 +87,8 @@ impl Explanation {
 
 /// Where the ranks stand in every run of this engine. Refuses [`Refusal::Torn`] if they come to their ends, which doesn't happen.
 fn stall_here(alloc: Global, script: &Script, job: &Job) -> Result<ShownStall, Refusal>
-    ensures { IfOk result (IsShown script.now) }
+    ensures shown { IfOk result (IsShown script.now) }
+    ensures reading { IfOk result (λ shown. shown.waiting ≡ WaitsFor.Heard) }
 {
     match stall_by_schedules(alloc, script, job)? {
         Some(shown) => Ok(shown),
@@ -97,7 +102,8 @@ fn stall_by_schedules(
     script: &Script,
     job: &Job,
 ) -> Result<Option<ShownStall>, Refusal>
-    ensures { IfOk result (λ found. IfSome found (IsShown script.now)) }
+    ensures shown { IfOk result (λ found. IfSome found (IsShown script.now)) }
+    ensures reading { IfOk result (λ found. IfSome found (λ shown. shown.waiting ≡ WaitsFor.Heard)) }
 {
     let tables = tables_of(alloc, &job.collectives)?;
     stall_among(alloc, script, job, Reading::Heard(&tables))
@@ -111,7 +117,8 @@ fn stall_among(
     job: &Job,
     reading: Reading<'_>,
 ) -> Result<Option<ShownStall>, Refusal>
-    ensures { IfOk result (λ found. IfSome found (IsShown script.now)) }
+    ensures shown { IfOk result (λ found. IfSome found (IsShown script.now)) }
+    ensures reading { IfOk result (λ found. IfSome found (λ shown. shown.waiting ≡ waits_in_reading reading.entry)) }
 {
     for choice in [Choice::Best, Choice::First, Choice::Last] {
         let course = Course::of(alloc, &*job, reading, choice)?;

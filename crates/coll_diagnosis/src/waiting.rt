@@ -1,3 +1,6 @@
+ghost use Rattle.std.specs.Prelude.{◌≡◌};
+ghost use Rattle.coll_diagnosis.specs.Readings.{waits_in_reading};
+
 use coll_verdict::HeardRows;
 
 /// For which members the completion of a collective waits.
@@ -22,7 +25,9 @@ pub enum Reading<'t> {
 
 impl<'t> Reading<'t> {
     /// The reading without its tables.
-    pub fn waits_for(self) -> WaitsFor {
+    pub fn waits_for(self) -> WaitsFor
+        ensures { result ≡ waits_in_reading self.entry }
+    {
         match self {
             Reading::Needed => WaitsFor::Needed,
             Reading::Heard(_) => WaitsFor::Heard,

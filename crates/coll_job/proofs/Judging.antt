@@ -15,11 +15,13 @@ use Rattle.coll_check.specs.Checked.{IsCheckFault, IsCheckStatus}
 use Rattle.coll_diagnosis.specs.Unstalled.{IsNoStall}
 use Rattle.coll_diagnosis.specs.declared.explaining.ExplainOptions.{ExplainOptions}
 use Rattle.coll_check.specs.declared.checking.CheckForm.{CheckForm}
+use Rattle.coll_diagnosis.proofs.Meaning.{true-read}
+use Rattle.coll_job.specs.declared.task.Explaining.{Explaining}
 use Rattle.coll_job.specs.declared.task.Way.{Way}
 use Rattle.coll_job.specs.declared.task.Way.TheVariants.{Plain, Run, Explain, Check, Draw, DrawRun}
 use Rattle.coll_check.specs.Checked.{WritesLines}
 use Rattle.coll_check.specs.Says as checks
-use Rattle.coll_job.specs.Tasks.{is_answer, AnswersText, IsAnswer, IsStatusOf, IsTextStatus}
+use Rattle.coll_job.specs.Tasks.{is_answer, AnswersText, IsAnswer, IsExplanation, IsStatusOf, IsTextStatus}
 
 -- what a text with that meaning may be answered with
 abbrev IsTold : Result (List ℕ) Fault → ℕ → Type 0
@@ -134,10 +136,8 @@ status-verdict status (inl is) two = zero-isnt-two (sym is ∙ two)
 status-verdict status (inr (inl is)) two = three-isnt-two (sym is ∙ two)
 status-verdict status (inr (inr is)) two = six-isnt-two (sym is ∙ two)
 
-pub status-explained : (start : Option (List ℕ)) (status : ℕ) → IfSome start HasMeaning → IsStatus status
-    → IfSome start (λ input. IsTextStatus input status)
-status-explained None status means is = tt
-status-explained (Some input) status means is = status-means input status means (status-verdict status is)
+pub status-text-explained : (text : List ℕ) (status : ℕ) → HasMeaning text → IsStatus status → IsTextStatus text status
+status-text-explained text status means is = status-means text status means (status-verdict status is)
 
 -- of a check
 checked : (m : Result (List ℕ) Fault) (status : ℕ) → MatchResult m (λ lines. IsStatus status) (λ fault. status ≡ 2) → IsTold m status
@@ -197,21 +197,21 @@ pub unanswered-run : {T : Type 0} (r : Result T JobFault) → IfErr r (λ fault.
 unanswered-run (Ok status) = tt
 unanswered-run (Err fault) = unanswered-zero fault
 
-unanswered-by-explain : (options : ExplainOptions) (fault : JobFault) → IsNoStall fault → is_answer (Explain options) (status_of fault) ≡ false
-unanswered-by-explain options Read other = refl
-unanswered-by-explain options Write other = refl
-unanswered-by-explain options (Text fault) other = refl
-unanswered-by-explain options Stalled other = absurd (let both : true ≡ false = other in cc)
-unanswered-by-explain options (Refused why) other = refl
-unanswered-by-explain options Memory other = refl
-unanswered-by-explain options NoThread other = refl
-unanswered-by-explain options Torn other = refl
+unanswered-by-explain : (explaining : Explaining) (fault : JobFault) → IsNoStall fault → is_answer (Explain explaining) (status_of fault) ≡ false
+unanswered-by-explain explaining Read other = refl
+unanswered-by-explain explaining Write other = refl
+unanswered-by-explain explaining (Text fault) other = refl
+unanswered-by-explain explaining Stalled other = absurd (let both : true ≡ false = other in cc)
+unanswered-by-explain explaining (Refused why) other = refl
+unanswered-by-explain explaining Memory other = refl
+unanswered-by-explain explaining NoThread other = refl
+unanswered-by-explain explaining Torn other = refl
 
 -- of an explanation
-pub unanswered-explain : {T : Type 0} (options : ExplainOptions) (r : Result T JobFault) → IfErr r IsNoStall
-    → IfErr r (λ fault. is_answer (Explain options) (status_of fault) ≡ false)
-unanswered-explain options (Ok status) other = tt
-unanswered-explain options (Err fault) other = unanswered-by-explain options fault other
+pub unanswered-explain : {T : Type 0} (explaining : Explaining) (r : Result T JobFault) → IfErr r IsNoStall
+    → IfErr r (λ fault. is_answer (Explain explaining) (status_of fault) ≡ false)
+unanswered-explain explaining (Ok status) other = tt
+unanswered-explain explaining (Err fault) other = unanswered-by-explain explaining fault other
 
 unanswered-by-check : (form : CheckForm) (start : Option (List ℕ)) (fault : JobFault) → IsCheckFault start fault → IsNoStall fault
     → is_answer (Check form) (status_of fault) ≡ false
@@ -249,14 +249,15 @@ answered-check form name other start old new old_errors new_errors r is said =
     is
     said
 
--- of an explanation more is known where the text's bytes are
-pub answered-explain : (options : ExplainOptions) (name : List ℕ) (start old new old_errors new_errors : Option (List ℕ)) (r : Result ℕ JobFault)
-    → IfOk r (λ status. (lines : List ℕ) × verdicts.Says options status lines × Appends old new lines)
-    → IfOk r (λ status. (lines : List ℕ) × IfSome start (λ text. verdicts.IsTrueOf text options status lines) × Appends old new lines)
-    → IfOk r (λ status. IsAnswer (Explain options) name status start old new old_errors new_errors)
-answered-explain options name None old new old_errors new_errors (Ok status) said is = said
-answered-explain options name (Some text) old new old_errors new_errors (Ok status) said is = is
-answered-explain options name start old new old_errors new_errors (Err fault) said is = tt
+-- what is explained of the text that was read is true of the whole
+pub answered-explain-read : (options : ExplainOptions) (r : Result ℕ JobFault) (start : Option (List ℕ)) (text : List ℕ) (old new : Option (List ℕ))
+    → IfSome start (λ input. text ≡ take 1048577 input)
+    → IfOk r (λ status. IsExplanation options status (Some text) old new)
+    → IfOk r (λ status. IsExplanation options status start old new)
+answered-explain-read options (Ok status) None text old new read writes = λ other. let e = writes other in (e.0, e.1.says, e.2)
+answered-explain-read options (Ok status) (Some input) text old new read writes =
+    λ other. let e = writes other in (e.0, true-read (Some input) text options status e.0 read e.1, e.2)
+answered-explain-read options (Err fault) start text old new read writes = tt
 
 -- a task that ends with the status of an answer was answered with it, and nothing was told after that
 pub answered-task : (way : Way) (name : List ℕ) (answer : Result ℕ JobFault) (status : ℕ) (start old new old_errors early last : Option (List ℕ))
@@ -314,7 +315,7 @@ plain-ends Torn start fails = absurd fails
 ends-with-one : (way : Way) → IsStatusOf way 1
 ends-with-one Plain = inl (omega arith)
 ends-with-one (Run options) = omega arith
-ends-with-one (Explain options) = omega arith
+ends-with-one (Explain explaining) = omega arith
 ends-with-one (Check form) = omega arith
 ends-with-one (Draw draft) = omega arith
 ends-with-one (DrawRun workers file) = omega arith
@@ -322,7 +323,7 @@ ends-with-one (DrawRun workers file) = omega arith
 ends-with-five : (way : Way) → IsStatusOf way 5
 ends-with-five Plain = inr refl
 ends-with-five (Run options) = omega arith
-ends-with-five (Explain options) = omega arith
+ends-with-five (Explain explaining) = omega arith
 ends-with-five (Check form) = omega arith
 ends-with-five (Draw draft) = omega arith
 ends-with-five (DrawRun workers file) = omega arith
@@ -330,7 +331,7 @@ ends-with-five (DrawRun workers file) = omega arith
 unanswered-one : (way : Way) → is_answer way 1 ≡ false
 unanswered-one Plain = refl
 unanswered-one (Run options) = refl
-unanswered-one (Explain options) = refl
+unanswered-one (Explain explaining) = refl
 unanswered-one (Check form) = refl
 unanswered-one (Draw draft) = refl
 unanswered-one (DrawRun workers file) = refl
@@ -338,7 +339,7 @@ unanswered-one (DrawRun workers file) = refl
 unanswered-five : (way : Way) → is_answer way 5 ≡ false
 unanswered-five Plain = refl
 unanswered-five (Run options) = refl
-unanswered-five (Explain options) = refl
+unanswered-five (Explain explaining) = refl
 unanswered-five (Check form) = refl
 unanswered-five (Draw draft) = refl
 unanswered-five (DrawRun workers file) = refl

@@ -7,6 +7,7 @@ use Rattle.clap.specs.declared.error.kind.ErrorKind.TheVariants.{DisplayHelp, Di
 use Rattle.coll_script.specs.Meaning.{meaning}
 use Rattle.coll_script.specs.Plain.{WritesMeaning}
 use Rattle.coll_diagnosis.specs.Verdicts as verdicts
+use Rattle.coll_diagnosis.specs.declared.explaining.ExplainOptions.{ExplainOptions}
 use Rattle.coll_check.specs.Checked.{WritesLines}
 use Rattle.coll_check.specs.Says as checks
 use Rattle.coll_check.specs.declared.checking.CheckForm.{CheckForm}
@@ -18,7 +19,7 @@ use Rattle.coll_job.specs.declared.task.Way.TheVariants.{Plain, Run, Explain, Ch
 abbrev pub workers_of : Way → ℕ
 workers_of Plain = 0
 workers_of (Run options) = options.workers
-workers_of (Explain options) = 0
+workers_of (Explain explaining) = 0
 workers_of (Check form) = 0
 workers_of (Draw draft) = 0
 workers_of (DrawRun workers file) = workers
@@ -27,7 +28,7 @@ workers_of (DrawRun workers file) = workers
 abbrev pub IsStatusOf : Way → ℕ → Type 0
 IsStatusOf Plain status = (status ≤ 2) ⊎ (status ≡ 5)
 IsStatusOf (Run options) status = status ≤ 5
-IsStatusOf (Explain options) status = status ≤ 6
+IsStatusOf (Explain explaining) status = status ≤ 6
 IsStatusOf (Check form) status = status ≤ 6
 IsStatusOf (Draw draft) status = status ≤ 5
 IsStatusOf (DrawRun workers file) status = status ≤ 5
@@ -38,7 +39,7 @@ IsStatusOf (DrawRun workers file) status = status ≤ 5
 abbrev pub may_write : Way → ℕ → Bool
 may_write Plain status = nat_le status 1
 may_write (Run options) status = nat_le status 1
-may_write (Explain options) status = nat_le status 1 || (status == 3 || status == 6)
+may_write (Explain explaining) status = nat_le status 1 || (status == 3 || status == 6)
 may_write (Check (Text colored)) status = false
 may_write (Check Json) status = nat_le status 3 || status == 6
 may_write (Draw draft) status = nat_le status 1
@@ -53,10 +54,22 @@ name_of (Some name) = name.now
 abbrev pub is_answer : Way → ℕ → Bool
 is_answer Plain status = status == 0
 is_answer (Run options) status = status == 0
-is_answer (Explain options) status = status == 0 || (status == 3 || status == 6)
+is_answer (Explain explaining) status = status == 0 || (status == 3 || status == 6)
 is_answer (Check form) status = status == 0 || (status == 2 || (status == 3 || status == 6))
 is_answer (Draw draft) status = false
 is_answer (DrawRun workers file) status = false
+
+-- the status of an explanation: 1 if the file of its page can't be written
+abbrev pub IsExplainStatus : ℕ → Type 0
+IsExplainStatus status = (status ≡ 1) ⊎ verdicts.IsStatus status
+
+-- what is written where a text is explained with that status
+abbrev pub IsExplanation : ExplainOptions → ℕ → Option (List ℕ) → Option (List ℕ) → Option (List ℕ) → Type 0
+IsExplanation options status input old new =
+    status ≢ 1
+    → (lines : List ℕ)
+    × MatchOption input (verdicts.Says options status lines) (λ text. verdicts.IsTrueOf text options status lines)
+    × Appends old new lines
 
 -- what is written where a task is answered with that status: the text's meaning; what an explanation says that has the status, and whose
 -- verdict is true of the text; what is said of a text of that name that is checked with it. Where the text's bytes are known: they come after
@@ -64,10 +77,7 @@ is_answer (DrawRun workers file) status = false
 abbrev pub IsAnswer : Way → List ℕ → ℕ → Option (List ℕ) → Option (List ℕ) → Option (List ℕ) → Option (List ℕ) → Option (List ℕ) → Type 0
 IsAnswer Plain name status input old new old_errors new_errors = status ≡ 0 → IfSome input (λ text. WritesMeaning text old new)
 IsAnswer (Run options) name status input old new old_errors new_errors = status ≡ 0 → IfSome input (λ text. WritesMeaning text old new)
-IsAnswer (Explain options) name status input old new old_errors new_errors =
-    (lines : List ℕ)
-    × MatchOption input (verdicts.Says options status lines) (λ text. verdicts.IsTrueOf text options status lines)
-    × Appends old new lines
+IsAnswer (Explain explaining) name status input old new old_errors new_errors = IsExplanation explaining.options status input old new
 IsAnswer (Check form) name status input old new old_errors new_errors =
     (lines : List ℕ)
     × IfSome input (λ text. checks.Says form name text status lines)
@@ -94,7 +104,7 @@ IsTextStatus text status =
 abbrev pub IsJudged : Way → Option (List ℕ) → ℕ → Type 0
 IsJudged Plain input status = IfSome input (λ text. IsTextStatus text status)
 IsJudged (Run options) input status = IfSome input (λ text. IsTextStatus text status)
-IsJudged (Explain options) input status = IfSome input (λ text. IsTextStatus text status)
+IsJudged (Explain explaining) input status = IfSome input (λ text. IsTextStatus text status)
 IsJudged (Check form) input status = IfSome input (λ text. IsTextStatus text status)
 IsJudged (Draw draft) input status = Unit {0}
 IsJudged (DrawRun workers file) input status = IfSome input (λ text. IsTextStatus text status)

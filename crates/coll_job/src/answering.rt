@@ -1,7 +1,8 @@
 //! Answers a text: what a task asks for of a text is written.
 
-ghost use Rattle.std.specs.Prelude.{◌≡◌, ◌≤◌, ◌||◌, Some, false, true, IfOk, IfErr};
+ghost use Rattle.std.specs.Prelude.{◌≡◌, ◌≤◌, ◌+◌, ◌||◌, Some, false, true, IfOk, IfErr, IfSome, take};
 ghost use Rattle.std.specs.Io.KnownBytes.{Keeps};
+ghost use Rattle.coll_kinds.specs.Limits.{max_text};
 ghost use Rattle.coll_script.specs.Faults.{status_of};
 ghost use Rattle.coll_script.specs.Plain.{HasCause, IsReadFault};
 ghost use Rattle.coll_job.specs.Tasks.{workers_of, may_write, is_answer, name_of, AnswersText, IsAnswer, IsJudged, IsStatusOf};
@@ -9,10 +10,10 @@ ghost use Rattle.coll_job.specs.Tasks.{workers_of, may_write, is_answer, name_of
 use crate::carrying_out::{draw_run, run_text};
 use crate::drawing::draw;
 use crate::host::Host;
+use crate::pages::explain;
 use crate::screen::Screen;
 use crate::task::{Task, Way};
 use coll_check::check_job;
-use coll_diagnosis::explain_job;
 use coll_script::{CountedReader, JobFault, Witnessed, plain_job, read_text};
 use std::alloc::Global;
 use std::fs::Files;
@@ -76,7 +77,20 @@ fn read_file<M: Files>(
     ensures cause { IfErr result (λ fault. HasCause fault host.new.failed false) }
 {
     let mut file = file;
-    let mut reader = CountedReader::new(&mut file);
+    read_all(host, alloc, &mut file)
+}
+
+/// Reads a text from an opened file, up to one byte more than a text may have, and notes whether the file failed.
+fn read_all<M: Files, R: Read>(
+    host: &mut Host<'_, M>,
+    alloc: Global,
+    file: &mut R,
+) -> Result<Vec<u8>, JobFault>
+    ensures text { IfOk result (λ text. IfSome (R.remaining file.old) (λ input. text.items ≡ take (max_text + 1) input)) }
+    ensures fault { IfErr result IsReadFault }
+    ensures cause { IfErr result (λ fault. HasCause fault host.new.failed false) }
+{
+    let mut reader = CountedReader::new(file);
     let text = read_text(alloc, &mut reader);
     host.heed(&reader);
     text
@@ -165,7 +179,15 @@ pub(crate) fn write_answer<
             output,
             errors.stream,
         ),
-        Way::Explain(options) => explain_job(alloc, name, options, reader, output),
+        Way::Explain(explaining) => explain(
+            host,
+            alloc,
+            name,
+            explaining,
+            reader,
+            output,
+            errors.stream,
+        ),
         Way::Check(form) => check_job(alloc, name, form, reader, output, errors),
         Way::Draw(draft) => draw(host, alloc, draft, output, errors.stream),
         Way::DrawRun { workers, file } => {

@@ -9,13 +9,12 @@ ghost use Rattle.coll_job.specs.Tasks.{IsTextStatus};
 
 use crate::answering::name_of;
 use crate::host::Host;
-use crate::keeping::{UNWRITTEN, is_kept, put};
+use crate::keeping::{UNWRITTEN, put};
 use crate::progress::ProgressLine;
 use crate::screen::Screen;
+use crate::stalls::are_stall_files_kept;
 use crate::task::RunOptions;
-use crate::tasks::told;
 use crate::viewing::{keep_views, picture_of};
-use coll_diagnosis::{ExplainOptions, Form, explain_text};
 use coll_run::{NoWatch, Recording, recorded_job, threaded_job};
 use coll_script::{CountedReader, JobFault, Witnessed, read_text, write_lines};
 use std::alloc::Global;
@@ -24,14 +23,6 @@ use std::io::{Read, Write};
 use std::rt::Clock;
 use std::sync::Wait;
 use std::thread::Threads;
-
-/// How the explanation of a run is written.
-const EXPLAINED: ExplainOptions = ExplainOptions {
-    form: Form::Text,
-    is_strict: false,
-    is_whole: false,
-    is_colored: false,
-};
 
 /// Runs a text by threads, writes the files on what the run did, and then the values. Returns the exit status. `file` is the
 /// name of the text's file.
@@ -99,13 +90,20 @@ fn run_recorded<M: Threads + Wait + Sync + Files + Clock, S: Screen + Sync, W: W
     ensures unwritten_fault { IfErr result (λ fault. fault ≢ JobFault.Write → Keeps (W.contents output.old.stream.now) (W.contents output.new.stream.now)) }
 {
     let recorded = watched_job(host.machine, alloc, screen, is_shown, text, options.workers);
-    if let (Some(explanation), Err(JobFault::Stalled)) = (options.explanation, &recorded) {
-        if !is_explained(host, alloc, file, text, explanation, errors)? {
+    if let Err(JobFault::Stalled) = &recorded {
+        if !are_stall_files_kept(host, alloc, &options, file, text, errors)? {
             return Ok(UNWRITTEN);
         }
     }
     let recording = recorded?;
-    if !keep_views(host, alloc, &options.views, &recording, errors)? {
+    if !keep_views(
+        host,
+        alloc,
+        &options.views,
+        name_of(file),
+        &recording,
+        errors,
+    )? {
         return Ok(UNWRITTEN);
     }
     write_lines(output, &recording.lines)?;
@@ -198,28 +196,4 @@ fn draw_recorded<M: Threads + Wait + Sync + Files + Clock, W: Write, E: Write>(
     let recording = recorded_job(host.machine, alloc, text, workers, &NoWatch)?;
     let picture = picture_of(alloc, &recording)?;
     put(host, alloc, file, &picture, output, errors)
-}
-
-/// Writes why the runs of a text stall to the file `explanation`. Returns whether that succeeded; if not, the stall and the
-/// fault of the file go to `errors`.
-fn is_explained<F: Files, E: Write>(
-    host: &mut Host<'_, F>,
-    alloc: Global,
-    file: Option<&str>,
-    text: &[u8],
-    explanation: &str,
-    errors: &mut E,
-) -> Result<bool, JobFault>
-    ensures faults { IfErr result (IsFaultOf text.now) }
-    ensures cause { IfOk result (λ explained. explained ≡ false → host.new.failed ≡ true) }
-{
-    let lines = explain_text(alloc, name_of(file), EXPLAINED, text)?.lines;
-    let bytes = lines.as_str().as_bytes();
-    let mut fault = Vec::new(alloc);
-    if is_kept(host, alloc, explanation, bytes, &mut fault) {
-        return Ok(true);
-    }
-    let _ = told(file, JobFault::Stalled, errors);
-    let _ = errors.write_all(&fault);
-    Ok(false)
 }

@@ -4,7 +4,7 @@ ghost use Rattle.std.specs.Prelude.{◌≤◌, IfOk};
 ghost use Rattle.coll_job.specs.Tasks.{workers_of};
 
 use crate::drawing::{DrawForm, DrawingTask};
-use crate::task::{Task, Way};
+use crate::task::{Explaining, Task, Way};
 use crate::words::{all_ranks, is_whole, task_on, text_file, workers_argument, workers_in};
 use clap::builder::ValueParser;
 use clap::{Arg, ArgAction, ArgMatches, Command};
@@ -123,17 +123,21 @@ fn join(words: Option<&[&str]>, joined: &mut String) -> Result<(), AllocError> {
 }
 
 /// How waits are drawn, by the words after `draw waits`.
-fn waits_options(matches: &ArgMatches<'_>) -> ExplainOptions {
+fn waits_options<'w>(matches: &ArgMatches<'w>) -> Explaining<'w> {
     let form = if matches.get_flag(DOT) {
         Form::Dot
     } else {
         Form::Text
     };
-    ExplainOptions {
+    let options = ExplainOptions {
         form,
         is_strict: false,
         is_whole: is_whole(matches),
         is_colored: false,
+    };
+    Explaining {
+        options,
+        page: None,
     }
 }
 

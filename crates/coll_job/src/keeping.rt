@@ -1,7 +1,7 @@
 //! Writes a file whole or not at all.
 
-ghost use Rattle.std.specs.Prelude.{◌≡◌, ◌≢◌, ◌<◌, ◌≤◌, true, false, IfOk, IfErr, OnErr, IsOkUnless};
-ghost use Rattle.std.specs.Io.KnownBytes.{Keeps};
+ghost use Rattle.std.specs.Prelude.{◌≡◌, ◌≢◌, ◌<◌, ◌≤◌, true, false, IfOk, IfErr, IfNone, OnErr, OnOk, IsOkUnless};
+ghost use Rattle.std.specs.Io.KnownBytes.{Appends, Keeps};
 
 use crate::host::Host;
 use coll_script::{JobFault, Witnessed, write_lines};
@@ -27,6 +27,8 @@ pub(crate) fn put<F: Files, W: Write, E: Write>(
     errors: &mut E,
 ) -> Result<u8, JobFault>
     ensures status { IfOk result (λ status. status ≤ 1) }
+    // Without a file standard output gets the bytes, and nothing else.
+    ensures written { IfNone file (OnOk result (Appends (W.contents output.old.stream.now) (W.contents output.new.stream.now) bytes.now)) }
     ensures unwritten { IfOk result (λ status. 1 < status → Keeps (W.contents output.old.stream.now) (W.contents output.new.stream.now)) }
     ensures unwritten_fault { IfErr result (λ fault. fault ≢ JobFault.Write → Keeps (W.contents output.old.stream.now) (W.contents output.new.stream.now)) }
     ensures fault { IsOkUnless result JobFault.Write }
@@ -170,7 +172,10 @@ fn write<F: Files>(files: &F, name: &str, bytes: &[u8]) -> io::Result<()> {
     write_to(&mut file, bytes)
 }
 
-fn write_to<W: Write>(file: &mut W, bytes: &[u8]) -> io::Result<()> {
+/// Writes the bytes to a file that was opened, and nothing else.
+fn write_to<W: Write>(file: &mut W, bytes: &[u8]) -> io::Result<()>
+    ensures { OnOk result (Appends (W.contents file.old) (W.contents file.new) bytes.now) }
+{
     file.write_all(bytes)?;
     file.flush()
 }

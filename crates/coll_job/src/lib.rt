@@ -13,7 +13,9 @@
 //! | `opening`, `keeping` | opens the file that the words name; writes a file whole or not at all |
 //! | `signature`, `drawing` | reads the words of a signature; draws its schedules |
 //! | `views`, `viewing` | the words for files on what a run did; writes these files |
+//! | `pages` | pages for a browser, of runs and explanations |
 //! | `carrying_out` | runs a text by threads, and writes what is reported of the run |
+//! | `stalls` | writes the files on a run that deadlocks |
 //! | `screen`, `progress` | the screen of the user; shows how far a long run is |
 #![tactic(auto)]
 
@@ -25,9 +27,11 @@ mod host;
 mod keeping;
 mod machine;
 mod opening;
+mod pages;
 mod progress;
 mod screen;
 mod signature;
+mod stalls;
 mod task;
 mod tasks;
 mod viewing;
@@ -41,6 +45,6 @@ pub use host::Host;
 pub use machine::main_of;
 pub use progress::ProgressLine;
 pub use screen::{Colors, NoScreen, Screen};
-pub use task::{RunOptions, Task, Way};
+pub use task::{Explaining, RunOptions, Task, Way};
 pub use tasks::{do_parsed, do_task, run, run_on};
 pub use views::{OutcomeForm, Views};

@@ -21,13 +21,21 @@ pub enum Way<'w> {
     /// `run`: run the text by threads.
     Run(RunOptions<'w>),
     /// `explain`: report whether the runs stall, and which rank then waits for which.
-    Explain(ExplainOptions),
+    Explain(Explaining<'w>),
     /// `check`: report all faults, or, if there are none, what `explain` reports.
     Check(CheckForm),
     /// `draw`: draw the schedules of a collective.
     Draw(DrawingTask<'w>),
     /// `draw run`: run the text by threads, and draw what they did, to the file or, if there is none, to standard output.
     DrawRun { workers: u8, file: Option<&'w str> },
+}
+
+/// How a text is explained, and what is written beside the explanation.
+#[derive(Clone, Copy, Debug, PartialEq, Eq)]
+pub struct Explaining<'w> {
+    pub options: ExplainOptions,
+    /// The file that gets the page of the explanation, if one is wanted.
+    pub page: Option<&'w str>,
 }
 
 /// How a text is run, and what is reported of the run beside its values.

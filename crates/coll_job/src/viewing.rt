@@ -3,10 +3,11 @@
 ghost use Rattle.std.specs.Prelude.{◌≡◌, true, false, IfErr, IfOk};
 ghost use Rattle.std.specs.Option.{option_copied, option_map};
 ghost use Rattle.coll_script.specs.Faults.{status_of};
-ghost use Rattle.coll_job.specs.Pages.{ArePages, lines_of, name_in, named_text, outcomes_in, requests_of, stats_page, text_for, trace_page};
+ghost use Rattle.coll_job.specs.Pages.{ArePages, IsRunPageFor, lines_of, name_in, named_text, outcomes_in, requests_of, stats_page, text_for, trace_page};
 
 use crate::host::Host;
 use crate::keeping::is_kept;
+use crate::pages::run_page;
 use crate::views::{OutcomeForm, Views};
 use coll_report::{Report, Span};
 use coll_run::Recording;
@@ -25,8 +26,9 @@ struct ViewFile<'w> {
     bytes: Vec<u8>,
 }
 
-/// Writes the files of a run, each whole or not at all. It writes the first one only once the bytes of all are made. Returns
-/// whether each could be written; if one can't, `errors` gets its name and the reason, and the files before it stay.
+/// Writes the files of a run of the text with the name `file`, each whole or not at all. It writes the first one only once the
+/// bytes of all are made. Returns whether each could be written; if one can't, `errors` gets its name and the reason, and the
+/// files before it stay.
 ///
 /// # Errors
 ///
@@ -35,6 +37,7 @@ pub(crate) fn keep_views<F: Files, E: Write>(
     host: &mut Host<'_, F>,
     alloc: Global,
     views: &Views<'_>,
+    file: &str,
     recording: &Recording,
     errors: &mut E,
 ) -> Result<bool, JobFault>
@@ -44,7 +47,7 @@ pub(crate) fn keep_views<F: Files, E: Write>(
     if !views.are_wanted() {
         return Ok(true);
     }
-    match pages_of(alloc, views, recording) {
+    match pages_of(alloc, views, file, recording) {
         Ok(pages) => Ok(are_kept(host, alloc, &pages, errors)),
         Err(fault) => Err(told_of(fault)),
     }
@@ -103,9 +106,10 @@ fn told_of(fault: ReportFault) -> JobFault
 fn pages_of<'w>(
     alloc: Global,
     views: &Views<'w>,
+    file: &str,
     recording: &Recording,
-) -> Result<[Option<ViewFile<'w>>; 5], ReportFault>
-    ensures { IfOk result (λ pages. ArePages views.now recording.now.report recording.now.spans.items recording.now.lines.items pages) }
+) -> Result<[Option<ViewFile<'w>>; 6], ReportFault>
+    ensures { IfOk result (λ pages. ArePages views.now file.now recording.now.report recording.now.spans.items recording.now.lines.items pages) }
 {
     let requests = requests_of(alloc, &recording.report)?;
     let lines = lines_of(alloc, &recording.spans)?;
@@ -113,8 +117,9 @@ fn pages_of<'w>(
     let stats = stats_page(alloc, views.stats, recording, &requests)?;
     let timeline = timeline_page(alloc, views.timeline, recording, &requests)?;
     let picture = picture_page(alloc, views.picture, recording, &requests, &lines)?;
+    let page = browser_page(alloc, views.page, file, recording, &requests)?;
     let outcomes = outcomes_page(alloc, views, recording, &requests, &lines)?;
-    Ok([trace, stats, timeline, picture, outcomes])
+    Ok([trace, stats, timeline, picture, page, outcomes])
 }
 
 /// The page of the trace, an entry in each line, if a file is named.
@@ -154,7 +159,7 @@ fn stats_page<'w>(
 }
 
 /// The tables: sums over the entries.
-fn stats_text(
+pub(crate) fn stats_text(
     alloc: Global,
     recording: &Recording,
     requests: &RankRequests,
@@ -200,6 +205,24 @@ fn picture_page<'w>(
     };
     let (ranks, trace) = (recording.report.ranks(), recording.report.entries());
     let bytes = picture_text(alloc, ranks, requests, trace, lines)?;
+    Ok(Some(ViewFile { name, bytes }))
+}
+
+/// The page for a browser, if a file is named.
+fn browser_page<'w>(
+    alloc: Global,
+    name: Option<&'w str>,
+    file: &str,
+    recording: &Recording,
+    requests: &RankRequests,
+) -> Result<Option<ViewFile<'w>>, ReportFault>
+    requires { requests.now ≡ requests_of recording.now.report }
+    ensures { IfOk result (IsRunPageFor name.entry file.now recording.now.report) }
+{
+    let Some(name) = name else {
+        return Ok(None);
+    };
+    let bytes = run_page(alloc, file, recording, requests)?;
     Ok(Some(ViewFile { name, bytes }))
 }
 

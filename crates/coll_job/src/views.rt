@@ -1,5 +1,8 @@
 //! The words that ask `run` for files on what it did.
 
+ghost use Rattle.std.specs.Prelude.{◌≡◌};
+ghost use Rattle.coll_job.specs.Pages.{are_wanted};
+
 use clap::builder::ValueParser;
 use clap::{Arg, ArgMatches, Command};
 use std::alloc::{AllocError, Global};
@@ -15,6 +18,8 @@ pub struct Views<'w> {
     pub timeline: Option<&'w str>,
     /// The file of the picture with a column for each rank.
     pub picture: Option<&'w str>,
+    /// The file of the page for a browser.
+    pub page: Option<&'w str>,
     /// The file of the outcomes.
     pub outcomes: Option<&'w str>,
     /// How the outcomes are written.
@@ -38,6 +43,8 @@ const TIMELINE: &str = "timeline";
 
 const PICTURE: &str = "picture";
 
+pub(crate) const PAGE: &str = "html";
+
 const OUT: &str = "out";
 
 const OUT_FORM: &str = "format";
@@ -46,19 +53,23 @@ static OUT_FORMS: [&str; 2] = ["text", "json"];
 
 impl<'w> Views<'w> {
     /// Whether some file is named.
-    pub fn are_wanted(&self) -> bool {
+    pub fn are_wanted(&self) -> bool
+        ensures { result ≡ are_wanted self.now }
+    {
         self.trace.is_some()
             || self.stats.is_some()
             || self.timeline.is_some()
             || self.picture.is_some()
+            || self.page.is_some()
             || self.outcomes.is_some()
     }
 }
 
 /// The text below the help of `run`.
 const WHEN: &str = "\
-Each file is written whole or not at all. Those of --trace, --stats, --timeline, --picture and --out are written where the run ends
-well, before standard output; where one of them can't be written, standard output stays empty.";
+Each file is written whole or not at all. Those of --trace, --stats, --timeline, --picture, --html and --out are written where the
+run ends well, before standard output; where one of them can't be written, standard output stays empty. Where the run deadlocks,
+the page of --html shows why.";
 
 /// The command, with the arguments of these files added.
 pub(crate) fn with_views<'a>(
@@ -95,6 +106,10 @@ pub(crate) fn with_views<'a>(
             PICTURE,
             "Draws to the file OUT a column for each rank, with a bar from each post or start to its completion",
         ))?
+        .arg(page_argument(
+            alloc,
+            "Writes to the file OUT a page for a browser: the timeline and the tables, or, if the run deadlocks, why",
+        ))?
         .arg(form)?
         .arg(
             Arg::new(alloc, OUT)
@@ -102,6 +117,11 @@ pub(crate) fn with_views<'a>(
                 .value_name("OUT")
                 .help("Writes the values to the file OUT too"),
         )
+}
+
+/// The argument that names the file of the page.
+pub(crate) fn page_argument<'a>(alloc: Global, help: &'static str) -> Arg<'a> {
+    file(alloc, PAGE, help)
 }
 
 /// An argument that names a file.
@@ -119,6 +139,7 @@ pub(crate) fn views_of<'w>(run: &ArgMatches<'w>) -> Views<'w> {
         stats: run.get_str(STATS),
         timeline: run.get_str(TIMELINE),
         picture: run.get_str(PICTURE),
+        page: run.get_str(PAGE),
         outcomes: run.get_str(OUT),
         form: match run.get_str(OUT_FORM) {
             Some("json") => OutcomeForm::Json,

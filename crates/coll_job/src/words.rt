@@ -5,8 +5,8 @@ ghost use Rattle.coll_job.specs.Tasks.{workers_of};
 
 use crate::draw_words::{draw_command, draw_task};
 use crate::screen::Colors;
-use crate::task::{RunOptions, Task, Way};
-use crate::views::{views_of, with_views};
+use crate::task::{Explaining, RunOptions, Task, Way};
+use crate::views::{PAGE, page_argument, views_of, with_views};
 use clap::builder::ValueParser;
 use clap::{Arg, ArgAction, ArgMatches, Command, Error};
 use coll_check::CheckForm;
@@ -146,6 +146,10 @@ fn explain_command<'a>(alloc: Global) -> Result<Command<'a>, AllocError> {
         ))?
         .arg(strict)?
         .arg(all_ranks(alloc))?
+        .arg(page_argument(
+            alloc,
+            "Writes to the file OUT a page for a browser too, with a picture of which rank waits for which",
+        ))?
         .arg(text_file(alloc))
 }
 
@@ -216,7 +220,8 @@ pub fn task_of<'w>(
             is_whole: is_whole(explain),
             is_colored: is_colored(explain, colors.output),
         };
-        return Ok(task_on(Way::Explain(options), explain));
+        let page = explain.get_str(PAGE);
+        return Ok(task_on(Way::Explain(Explaining { options, page }), explain));
     }
     if let Some(check) = matches.subcommand_matches("check") {
         return Ok(task_on(Way::Check(check_form_of(check, colors.errors)), check));

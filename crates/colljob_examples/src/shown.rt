@@ -12,12 +12,13 @@ use std::thread::Threads;
 pub const SHOWN: [&str; 3] = ["communicators", "persistent", "sum_of_three"];
 
 /// The files on what it did that a run writes.
-const FILES: [&str; 5] = [
+const FILES: [&str; 6] = [
     "run.trace",
     "run.stats",
     "run.picture",
     "run.timeline",
     "run.json",
+    "run.html",
 ];
 
 /// A file in a folder that doesn't exist.
@@ -58,7 +59,7 @@ impl Stored {
 
 /// Whether the runs of a text show what they did as stored in `runs/`: the entries, rank by rank, in `NAME.trace`; the tables
 /// in `NAME.stats`, if their numbers are the same in each run; and the values in `NAME.json`. The picture, the one of `draw
-/// run`, and the timeline must have a bar for each completion.
+/// run`, the timeline and the page for a browser must have a bar for each completion.
 pub fn is_shown<M: Threads + Wait + Sync + Files + Clock>(
     rt: &HostRuntime,
     machine: &M,
@@ -91,6 +92,7 @@ fn is_run_shown<M: Threads + Wait + Sync + Files + Clock>(
     let picture = fs::read(rt, FILES[2])?;
     let timeline = fs::read(rt, FILES[3])?;
     let json = fs::read(rt, FILES[4])?;
+    let page = fs::read(rt, FILES[5])?;
     for file in FILES {
         remove_file(machine, file)?;
     }
@@ -99,6 +101,8 @@ fn is_run_shown<M: Threads + Wait + Sync + Files + Clock>(
     let bars = count(&stored.trace, b" completed ");
     let drawn = count(&picture, b"  completed ");
     let timed = count(&timeline, b"\"ph\":\"X\"");
+    // The page has the timeline as a string.
+    let paged = count(&page, b"\\\"ph\\\":\\\"X\\\"");
     let is_drawn = drawing.status == 0 && count(&drawing.lines, b"  completed ") == bars;
     let is_counted = is_counted(&stored.stats, &stats);
     Ok(
@@ -107,7 +111,8 @@ fn is_run_shown<M: Threads + Wait + Sync + Files + Clock>(
             && is_counted
             && is_drawn
             && drawn == bars
-            && timed == bars,
+            && timed == bars
+            && paged == bars,
     )
 }
 
@@ -148,7 +153,7 @@ fn is_counted(stored: &Option<Vec<u8>>, tables: &Vec<u8>) -> bool {
 }
 
 /// The words that run a text, with all files on what the run did.
-fn words_for<'a>(workers: &'a str, text: &'a str) -> [&'a str; 16] {
+fn words_for<'a>(workers: &'a str, text: &'a str) -> [&'a str; 18] {
     [
         "run",
         "--workers",
@@ -161,6 +166,8 @@ fn words_for<'a>(workers: &'a str, text: &'a str) -> [&'a str; 16] {
         FILES[2],
         "--timeline",
         FILES[3],
+        "--html",
+        FILES[5],
         "--format",
         "json",
         "--out",

@@ -10,4 +10,10 @@ returns-clause-verdict c = record {
     object = c.in_ok-lines.ensures.object;
   };
   means = c.in_ok-explanation.ensures.means;
+  told = λ json. (
+    c.in_ok-explanation.explanation.shown,
+    c.in_ok-explanation.explanation.cure,
+    c.in_ok-lines.ensures.told json,
+    c.in_ok-explanation.ensures.found,
+  );
 }

@@ -1,5 +1,5 @@
 use Rattle.coll_job.proofs.Judging.{cause-heeded}
-use Rattle.coll_job.proofs.answering.read_file.Goals as goal
+use Rattle.coll_job.proofs.answering.read_all.Goals as goal
 
 pub returns-clause-cause : goal.returns-clause-cause
 returns-clause-cause g c =
