@@ -228,7 +228,8 @@ impl<L: Entries> Combiner<L> {
         }
     }
 
-    /// Computes a combination with the lock free, which no gate sees. Then the lock is held again, and what was published meanwhile is done.
+    /// Computes a combination with the lock free, which no gate sees. Then the lock is held again,
+    /// and what was published meanwhile is done.
     fn compute_unseen<'a, R: Wait>(&'a self, rt: &R, held: Held<'a, L>, work: Work) -> Held<'a, L> {
         self.release(held);
         let computed = work.run();

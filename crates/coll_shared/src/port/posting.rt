@@ -125,7 +125,7 @@ impl<L: Entries> Port<L> {
     }
 
     /// Frees an inactive persistent request, and leaves null (`MPI_Request_free`; MPI 4.1, 3.7.3).
-    /// Takes no memory.
+    /// Never refuses NoMemory.
     ///
     /// # Errors
     ///
