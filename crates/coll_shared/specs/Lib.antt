@@ -4,6 +4,10 @@ pub mod Ports
 pub mod Starts
 -- what a port publishes, and what the combiner makes of it
 pub mod Publications
+-- what becomes of combinations, and of ports that sleep
+pub mod Writings
+pub mod Sleepers
+pub mod Successors
 -- how the threads of an engine's ranks end, and what their programs give
 pub mod HowEnded
 pub mod RankThreads

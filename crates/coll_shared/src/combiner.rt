@@ -2,7 +2,10 @@
 
 mod held;
 
-ghost use Rattle.std.specs.Prelude.{◌≡◌, IfErr};
+ghost use Rattle.std.specs.Prelude.{◌≡◌, ◌<◌, ℕ, IfErr, IsSome, vec_len};
+ghost use Rattle.std.specs.Sync.Mutex.{mutex_guard_value};
+ghost use Rattle.coll_traced.specs.Ranks.{IsIn};
+ghost use Rattle.coll_shared.specs.Sleepers.{AreCalled, Wakes};
 
 use crate::locked::{Locked, Successor};
 use crate::record::PublicationRecord;
@@ -63,7 +66,9 @@ impl<L: Entries> Combiner<L> {
     }
 
     /// Returns the record of a rank.
-    pub(crate) fn record(&self, rank: u8) -> Option<&PublicationRecord<L>> {
+    pub(crate) fn record(&self, rank: u8) -> Option<&PublicationRecord<L>>
+        ensures { rank < vec_len self.now.records → IsSome result }
+    {
         self.records.get(usize::from(rank))
     }
 
@@ -203,10 +208,23 @@ impl<L: Entries> Combiner<L> {
 
     /// In a deadlock, summons the parked ports: each waiting port then takes the lock, and finds
     /// that it is marked as stalled.
-    fn tell_stall(&self, held: &mut Held<'_, L>) {
-        if !held.locked.tell_stall() {
-            return;
+    #[tactic(auto, using(crate::proofs::Sleepers::wakes_none))]
+    fn tell_stall(&self, held: &mut Held<'_, L>)
+        ensures woken { Wakes (mutex_guard_value held.old.locked).parked held.old.wake (mutex_guard_value held.new.locked).parked held.new.wake }
+        ensures called { let then = mutex_guard_value held.new.locked in
+            AreCalled (vec_len self.now.records) (mutex_guard_value held.old.locked).traced then.traced then.parked }
+    {
+        if held.locked.tell_stall() {
+            self.call_parked(held);
         }
+    }
+
+    /// Summons the parked ports.
+    fn call_parked(&self, held: &mut Held<'_, L>)
+        ensures traced { (mutex_guard_value held.new.locked).traced ≡ (mutex_guard_value held.old.locked).traced }
+        ensures woken { Wakes (mutex_guard_value held.old.locked).parked held.old.wake (mutex_guard_value held.new.locked).parked held.new.wake }
+        ensures called { (rank : ℕ) → rank < vec_len self.now.records → rank < 64 → IsIn (mutex_guard_value held.new.locked).parked rank → ⊥ }
+    {
         let parked = held.locked.parked;
         for rank in 0..64u8 {
             if parked.has(rank) {
@@ -216,7 +234,12 @@ impl<L: Entries> Combiner<L> {
     }
 
     /// Summons a parked port: it is to take the lock, and goes on waiting.
-    fn call(&self, held: &mut Held<'_, L>, rank: u8) {
+    #[tactic(auto, using(crate::proofs::Sleepers::wakes_none))]
+    fn call(&self, held: &mut Held<'_, L>, rank: u8)
+        ensures traced { (mutex_guard_value held.new.locked).traced ≡ (mutex_guard_value held.old.locked).traced }
+        ensures woken { rank < 64 → Wakes (mutex_guard_value held.old.locked).parked held.old.wake (mutex_guard_value held.new.locked).parked held.new.wake }
+        ensures awake { rank < vec_len self.now.records → rank < 64 → IsIn (mutex_guard_value held.new.locked).parked rank → ⊥ }
+    {
         if let Some(record) = self.record(rank) {
             record.call();
             held.wakes(rank);

@@ -1,8 +1,14 @@
 //! What the engine's lock guards.
 
-ghost use Rattle.std.specs.Prelude.{◌≡◌, IfErr, IsTrue};
+ghost use Rattle.std.specs.Prelude.{◌≡◌, ◌<◌, ◌↔◌, ℕ, Any, IfErr, IfOk, IsTrue, OnOk, false, is_ok, length, true};
+ghost use Rattle.std.specs.Bool.{OnFalse, OnTrue};
+ghost use Rattle.coll_core.specs.Steps.{IsOut, ready};
 ghost use Rattle.coll_traced.specs.Awaiting.{IsSetback};
-ghost use Rattle.coll_traced.specs.Stalls.{WasStalled};
+ghost use Rattle.coll_traced.specs.Ranks.{IsIn};
+ghost use Rattle.coll_traced.specs.Stalls.{AreHeldUp, IsStalled, WasStalled};
+ghost use Rattle.coll_traced.specs.Waits.{IsMarked};
+ghost use Rattle.coll_shared.specs.Successors.{IsSpinning, IsSuccessor};
+ghost use Rattle.coll_shared.specs.Writings.{IsUnwanted, Writes, WritesDone};
 
 use coll_core::{DoneShortWork, DoneWork, Stepped, Work};
 use coll_kinds::{Refusal, Refused};
@@ -58,10 +64,14 @@ impl<L: Entries> Locked<L> {
         }
     }
 
-    /// Makes the steps that need no combination, at most `STEPS` of them. A step that is refused
-    /// memory is left to the thread that makes the next one.
+    /// Makes the steps that need no combination, at most `STEPS` of them. A deadlock that was
+    /// reported is over if a request is ready. A step that is refused memory is left to the thread
+    /// that makes the next one.
     #[inline(always)]
-    pub(crate) fn advance(&mut self) {
+    pub(crate) fn advance(&mut self)
+        ensures over { 0 < length (ready self.old.traced.core) → self.new.stalled ≡ false }
+        ensures kept { self.new.stalled ≡ true → self.old.stalled ≡ true }
+    {
         if !self.traced.is_ready() {
             return;
         }
@@ -95,7 +105,10 @@ impl<L: Entries> Locked<L> {
     /// because another thread may compute it.
     pub(crate) fn write(&mut self, computed: Result<DoneWork, Refused<Work>>) -> Result<(), Refusal>
         requires { IfErr computed (λ refused. refused.why ≡ Refusal.NoMemory) }
-        ensures { IfErr result IsSetback }
+        ensures written { Writes self.old.traced.core self.new.traced.core computed }
+        ensures out { IfOk computed (λ done. IsOut self.old.traced.core done.piece → IsTrue (is_ok result)) }
+        ensures refused { IfErr result IsSetback }
+        ensures stale { IfErr result (λ why. why ≡ Refusal.Stale → IsUnwanted self.old.traced.core computed) }
     {
         match computed {
             Ok(done) => {
@@ -113,7 +126,9 @@ impl<L: Entries> Locked<L> {
 
     /// Writes the result of a short combination.
     pub(crate) fn write_short(&mut self, done: DoneShortWork) -> Result<(), Refusal>
-        ensures { IfErr result IsSetback }
+        ensures written { WritesDone self.old.traced.core self.new.traced.core done }
+        ensures out { IsTrue (is_ok result) ↔ IsOut self.old.traced.core done.piece }
+        ensures refused { IfErr result IsSetback }
     {
         if self.traced.commit_short(done)?.has_finished() {
             self.finished = true;
@@ -138,7 +153,8 @@ impl<L: Entries> Locked<L> {
     /// Tells whether a deadlock was reported while the rank's port waited for what it waits for
     /// now, and nothing has been ready since.
     pub(crate) fn is_stalled(&self, rank: u8) -> bool
-        ensures { IsTrue result → WasStalled L.setting rank }
+        ensures marked { IsTrue result ↔ ((self.now.stalled ≡ true) × IsMarked self.now.traced.waits self.now.traced.stalled rank) }
+        ensures told { IsTrue result → WasStalled L.setting rank }
     {
         self.stalled && self.traced.is_stalled(rank)
     }
@@ -146,7 +162,14 @@ impl<L: Entries> Locked<L> {
     /// Marks the waiting ports, if the engine is deadlocked. Returns whether it marked them. A
     /// marked port goes on once it has the lock, so no deadlock is reported again while one is
     /// marked.
-    pub(crate) fn tell_stall(&mut self) -> bool {
+    pub(crate) fn tell_stall(&mut self) -> bool
+        ensures told { IsTrue result ↔ (IsStalled self.old.traced × (self.old.stalled ≡ true → Any (λ mark. mark ≡ true) self.old.traced.stalled → ⊥)) }
+        ensures marked { OnTrue result (AreHeldUp self.new.traced.core self.new.traced.waits self.new.traced.stalled) }
+        ensures none { OnFalse result (self.new.traced.stalled ≡ self.old.traced.stalled) }
+        ensures stalled { OnTrue result (self.new.stalled ≡ true) }
+        ensures waits { self.new.traced.waits ≡ self.old.traced.waits }
+        ensures parked { self.new.parked ≡ self.old.parked }
+    {
         if self.stalled && self.traced.some_is_marked() {
             return false;
         }
@@ -164,12 +187,17 @@ impl<L: Entries> Locked<L> {
 
     /// Returns the ranks whose waiting ports will take the lock by themselves: they neither sleep
     /// nor compute.
-    fn spinning(&self) -> Ranks {
+    #[tactic(auto, using(crate::proofs::Successors::spinning_are))]
+    fn spinning(&self) -> Ranks
+        ensures { (rank : ℕ) → IsIn result rank ↔ IsSpinning self.now.traced self.now.parked self.now.away rank }
+    {
         self.traced.waiting().but(self.parked).but(self.away)
     }
 
     /// Returns who goes on if the lock's holder doesn't.
-    pub(crate) fn successor(&self) -> Successor {
+    pub(crate) fn successor(&self) -> Successor
+        ensures { IsSuccessor self.now.traced self.now.parked self.now.away self.now.idle result }
+    {
         if !self.traced.is_ready() || !self.spinning().is_empty() {
             return Successor::NotNeeded;
         }

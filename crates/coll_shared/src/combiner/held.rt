@@ -1,3 +1,8 @@
+ghost use Rattle.std.specs.Prelude.{◌≡◌, ◌<◌};
+ghost use Rattle.std.specs.Sync.Mutex.{mutex_guard_value};
+ghost use Rattle.coll_traced.specs.Ranks.{IsIn};
+ghost use Rattle.coll_shared.specs.Sleepers.{Wakes};
+
 use crate::locked::Locked;
 use coll_traced::{Entries, Ranks};
 use std::sync::MutexGuard;
@@ -20,15 +25,23 @@ impl<'a, L: Entries> Held<'a, L> {
 
     /// Notes that a rank's port was answered or summoned. If it is parked, it is woken after the
     /// unlock.
-    pub(super) fn wakes(&mut self, rank: u8) {
-        if self.locked.parked.has(rank) {
-            self.locked.parked = self.locked.parked.without(rank);
+    #[tactic(auto, using(crate::proofs::Sleepers::wakes_none, crate::proofs::Sleepers::wakes_one))]
+    pub(super) fn wakes(&mut self, rank: u8)
+        ensures traced { (mutex_guard_value self.new.locked).traced ≡ (mutex_guard_value self.old.locked).traced }
+        ensures woken { rank < 64 → Wakes (mutex_guard_value self.old.locked).parked self.old.wake (mutex_guard_value self.new.locked).parked self.new.wake }
+        ensures awake { rank < 64 → IsIn (mutex_guard_value self.new.locked).parked rank → ⊥ }
+    {
+        let parked = self.locked.parked;
+        if parked.has(rank) {
+            self.locked.parked = parked.without(rank);
             self.wake = self.wake.with(rank);
         }
     }
 
     /// Unlocks, and nothing else. Returns the ranks to wake.
-    pub(super) fn unlock(self) -> Ranks {
+    pub(super) fn unlock(self) -> Ranks
+        ensures { result ≡ self.entry.wake }
+    {
         let Held { locked, wake } = self;
         drop(locked);
         wake
