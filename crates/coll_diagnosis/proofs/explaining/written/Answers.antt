@@ -13,7 +13,8 @@ returns-clause-object c =
       | in-Text w ↦ other_written (λ lines. EndsExplained e.verdict c.args.status (string_bytes lines)) c.ok_or.result
           (λ (json : c.args.options.form ≡ Json). let text : c.args.options.form ≡ Text = w.in-Text.is in cc)
       | in-Json w ↦ json_written (c.args.options.form ≡ Json) (λ lines. EndsExplained e.verdict c.args.status (string_bytes lines))
-          w.json_form.result c.match-options.lines _ c.ok_or.result (w.lines-is ∙ w.ok-lines-in-Json.ensures.value) c.ok_or.ensures.value w.json_form.ensures.object
+          w.json_form.result c.match-options.lines _ c.ok_or.result (w.lines-is ∙ w.ok-lines-in-Json.ensures.value)
+          c.ok_or.ensures.value w.json_form.ensures.object
       | in-Dot w ↦ other_written (λ lines. EndsExplained e.verdict c.args.status (string_bytes lines)) c.ok_or.result
           (λ (json : c.args.options.form ≡ Json). let dot : c.args.options.form ≡ Dot = w.in-Dot.is in cc)
     ]
@@ -25,7 +26,8 @@ returns-clause-told c =
       | in-Text w ↦ other_written (λ lines. EndsTelling e.verdict c.args.status e.shown e.cure (string_bytes lines)) c.ok_or.result
           (λ (json : c.args.options.form ≡ Json). let text : c.args.options.form ≡ Text = w.in-Text.is in cc)
       | in-Json w ↦ json_written (c.args.options.form ≡ Json) (λ lines. EndsTelling e.verdict c.args.status e.shown e.cure (string_bytes lines))
-          w.json_form.result c.match-options.lines _ c.ok_or.result (w.lines-is ∙ w.ok-lines-in-Json.ensures.value) c.ok_or.ensures.value w.json_form.ensures.told
+          w.json_form.result c.match-options.lines _ c.ok_or.result (w.lines-is ∙ w.ok-lines-in-Json.ensures.value)
+          c.ok_or.ensures.value w.json_form.ensures.told
       | in-Dot w ↦ other_written (λ lines. EndsTelling e.verdict c.args.status e.shown e.cure (string_bytes lines)) c.ok_or.result
           (λ (json : c.args.options.form ≡ Json). let dot : c.args.options.form ≡ Dot = w.in-Dot.is in cc)
     ]
