@@ -28,7 +28,7 @@ pub(crate) fn put<F: Files, W: Write, E: Write>(
 ) -> Result<u8, JobFault>
     ensures status { IfOk result (λ status. status ≤ 1) }
     // Without a file standard output gets the bytes, and nothing else.
-    ensures written { IfNone file (OnOk result (Appends (W.contents output.old.stream.now) (W.contents output.new.stream.now) bytes.now)) }
+    ensures written { IfNone file.entry (OnOk result (Appends (W.contents output.old.stream.now) (W.contents output.new.stream.now) bytes.now)) }
     ensures unwritten { IfOk result (λ status. 1 < status → Keeps (W.contents output.old.stream.now) (W.contents output.new.stream.now)) }
     ensures unwritten_fault { IfErr result (λ fault. fault ≢ JobFault.Write → Keeps (W.contents output.old.stream.now) (W.contents output.new.stream.now)) }
     ensures fault { IsOkUnless result JobFault.Write }
