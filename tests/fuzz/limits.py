@@ -10,7 +10,9 @@ import tempfile
 
 MOST_TEXT = 1 << 20
 SECONDS = 300
-NOBODY = 65534
+SOME_SECONDS = 60
+# The first number of a user who is nobody's account; the process's own number is added.
+SOMEBODY = 1_000_000
 SUM = "ranks 3\n" + "".join(f"rank {rank}\npost 0 allreduce sum i32 1 : {rank + 1}\n" for rank in range(3))
 SUMMED = "".join(f"rank {rank} req 0 start 0 : 6\n" for rank in range(3))
 # One rank, so that a run does each thing in one order.
@@ -33,7 +35,8 @@ class Checks:
 
 
 def colljob(program, words, text="", **how):
-    ran = subprocess.run([program, *words], input=text, capture_output=True, text=True, timeout=SECONDS, check=False, **how)
+    how.setdefault("timeout", SECONDS)
+    ran = subprocess.run([program, *words], input=text, capture_output=True, text=True, check=False, **how)
     return ran.returncode, ran.stdout, ran.stderr
 
 
@@ -133,15 +136,21 @@ def check_words(program, checks):
     checks.one("check --format=json", objects and objects[-1].get("status") == 3, objects)
 
 
-def few_threads():
-    """At most one process or thread of a user who has none yet."""
-    os.setgid(NOBODY)
-    os.setuid(NOBODY)
-    resource.setrlimit(resource.RLIMIT_NPROC, (1, 1))
+def few_threads(most):
+    """What makes a child process that of a user who has no other, and may have at most that many threads beside the first."""
+    somebody = SOMEBODY + os.getpid()
+
+    def limit():
+        os.setgid(somebody)
+        os.setuid(somebody)
+        resource.setrlimit(resource.RLIMIT_NPROC, (1 + most, 1 + most))
+
+    return limit
 
 
 def check_threads(program, checks):
-    """Root starts threads whatever its limit is, so the program runs as nobody."""
+    """Where a thread can't be started, those that were started before end without a call, and the run says so: two ranks of three would
+    wait for the third for ever. Root starts threads whatever its limit is, so the program runs as another user."""
     if os.getuid() != 0:
         print("skipped: a thread that can't be started: another user can't be taken")
         return
@@ -151,9 +160,13 @@ def check_threads(program, checks):
         with open(program, "rb") as file, open(place, "wb") as to:
             to.write(file.read())
         os.chmod(place, 0o755)
-        for workers in (0, 2):
-            said = colljob(place, ["run", "--quiet", f"--workers={workers}"], SUM, preexec_fn=few_threads)
-            checks.one(f"no thread can be started, {workers} progress threads", said == (5, "", "no thread\n"), said)
+        for workers, most in ((0, 0), (0, 2), (0, 3), (2, 0), (2, 3), (2, 4), (2, 5)):
+            wanted = (0, SUMMED, "") if most == 3 + workers else (5, "", "no thread\n")
+            try:
+                said = colljob(place, ["run", "--quiet", f"--workers={workers}"], SUM, preexec_fn=few_threads(most), timeout=SOME_SECONDS)
+            except subprocess.TimeoutExpired:
+                said = f"no end after {SOME_SECONDS} seconds"
+            checks.one(f"{most} threads can be started, of 3 ranks and {workers} progress threads", said == wanted, said)
 
 
 def check_pipe(program, checks):
