@@ -149,8 +149,8 @@ def few_threads(most):
 
 
 def check_threads(program, checks):
-    """Where a thread can't be started, those that were started before end without a call, and the run says so: two ranks of three would
-    wait for the third for ever. Root starts threads whatever its limit is, so the program runs as another user."""
+    """Where a thread can't be started, those that were started before are let go, and the run says so. Root starts threads whatever its
+    limit is, so the program runs as another user."""
     if os.getuid() != 0:
         print("skipped: a thread that can't be started: another user can't be taken")
         return
