@@ -151,7 +151,7 @@ check_c() {
     checks_threads=
     ! runs_threads_checked "$cc" || checks_threads=yes
     [ "$checks_threads" ] || skip "C under ThreadSanitizer" "programs of $cc don't run under it here"
-    for client in sum threads refusals cases waits explained calls mixed; do
+    for client in sum threads refusals cases each waits explained calls mixed; do
         # shellcheck disable=SC2086
         try_client $client static $c "$here/c/$client.c" $static
         # shellcheck disable=SC2086
@@ -186,7 +186,7 @@ check_c() {
     check_headers c c11 "$cc" gcc clang
     check_tables
     check_symbols
-    check_leaks refusals cases given memory sum explained left "waits 3 5" "calls 3 2" "threads 4 20 quiet" "helped 3 3 2"
+    check_leaks refusals cases each given memory sum explained left "waits 3 5" "calls 3 2" "threads 4 20 quiet" "helped 3 3 2"
 }
 
 # Clients whose engines have progress threads, which change nothing that a client sees.

@@ -50,23 +50,24 @@ enum {
 };
 /* tools/words: end of kinds */
 
-/* Operations (wz_call.op), with their MPI names (MPI 4.1, 6.9.2 and 6.9.4). */
+/* Operations (wz_call.op), with their MPI names (MPI 4.1, 6.9.2 and 6.9.4), and what they give of a lower member's
+   element a and a higher one's b. */
 /* tools/words: operations */
 enum {
     WZ_NO_OPERATION = 0, /* of the kinds that have none */
-    WZ_MAX = 1,          /* MPI_MAX */
-    WZ_MIN = 2,          /* MPI_MIN */
-    WZ_SUM = 3,          /* MPI_SUM, wrapped to the type's bits */
-    WZ_PROD = 4,         /* MPI_PROD, wrapped to the type's bits */
-    WZ_LAND = 5,         /* MPI_LAND */
-    WZ_LOR = 6,          /* MPI_LOR */
-    WZ_LXOR = 7,         /* MPI_LXOR */
-    WZ_BAND = 8,         /* MPI_BAND */
-    WZ_BOR = 9,          /* MPI_BOR */
-    WZ_BXOR = 10,        /* MPI_BXOR */
-    WZ_LASTNZ = 11,      /* the second element where it isn't 0, else the first; not commutative, as a user's may be */
-    WZ_MAXLOC = 12,      /* MPI_MAXLOC */
-    WZ_MINLOC = 13,      /* MPI_MINLOC */
+    WZ_MAX = 1,          /* MPI_MAX: the greater */
+    WZ_MIN = 2,          /* MPI_MIN: the lesser */
+    WZ_SUM = 3,          /* MPI_SUM: the sum, wrapped to the type's bits */
+    WZ_PROD = 4,         /* MPI_PROD: the product, wrapped to the type's bits */
+    WZ_LAND = 5,         /* MPI_LAND: 1 where both are nonzero, else 0 */
+    WZ_LOR = 6,          /* MPI_LOR: 1 where at least one is nonzero, else 0 */
+    WZ_LXOR = 7,         /* MPI_LXOR: 1 where exactly one is nonzero, else 0 */
+    WZ_BAND = 8,         /* MPI_BAND: the bits that both have */
+    WZ_BOR = 9,          /* MPI_BOR: the bits that at least one has */
+    WZ_BXOR = 10,        /* MPI_BXOR: the bits that exactly one has */
+    WZ_LASTNZ = 11,      /* b where b isn't 0, else a; not commutative, as a user's may be */
+    WZ_MAXLOC = 12,      /* MPI_MAXLOC: the pair with the greater value, of equal values the one with the lesser index */
+    WZ_MINLOC = 13,      /* MPI_MINLOC: the pair with the lesser value, of equal values the one with the lesser index */
     WZ_OPERATIONS = 14   /* the first number that names none */
 };
 /* tools/words: end of operations */

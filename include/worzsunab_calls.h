@@ -20,8 +20,14 @@ extern "C" {
 /* The bytes of an element, by the table of types in worzsunab.h; 0 for a number that names no type. */
 size_t wz_type_bytes(uint8_t type);
 
+/* How many blocks a member of so many gives to a collective and gets, by the table of kinds in worzsunab.h. 0 of an
+   allgatherv, of which counts say it, and for a number that names no kind. */
+size_t wz_blocks_given(uint8_t kind, uint32_t member, uint32_t root, size_t members);
+size_t wz_blocks_got(uint8_t kind, uint32_t member, uint32_t root, size_t members);
+
 /* ---- nonblocking (MPI 4.1, 6.12): MPI_Ibarrier and so on. counts has a count for each member, in elements. */
 
+/* tools/words: nonblocking */
 int32_t wz_ibarrier(wz_shared *shared, uint8_t rank, uint32_t comm, wz_request *request);
 int32_t wz_ibcast(wz_shared *shared, uint8_t rank, uint32_t comm, void *buffer, uint32_t count, uint8_t type,
                   uint8_t root, wz_request *request);
@@ -45,9 +51,11 @@ int32_t wz_iexscan(wz_shared *shared, uint8_t rank, uint32_t comm, const void *s
                    uint8_t type, uint8_t op, wz_request *request);
 int32_t wz_iallgatherv(wz_shared *shared, uint8_t rank, uint32_t comm, const void *send, void *receive,
                        const uint32_t *counts, uint8_t type, wz_request *request);
+/* tools/words: end of nonblocking */
 
 /* ---- persistent (MPI 4.1, 6.13): MPI_Barrier_init and so on; wz_begin starts them, wz_shared_free frees them. */
 
+/* tools/words: persistent */
 int32_t wz_barrier_init(wz_shared *shared, uint8_t rank, uint32_t comm, wz_request *request);
 int32_t wz_bcast_init(wz_shared *shared, uint8_t rank, uint32_t comm, void *buffer, uint32_t count, uint8_t type,
                       uint8_t root, wz_request *request);
@@ -71,6 +79,7 @@ int32_t wz_exscan_init(wz_shared *shared, uint8_t rank, uint32_t comm, const voi
                        uint8_t type, uint8_t op, wz_request *request);
 int32_t wz_allgatherv_init(wz_shared *shared, uint8_t rank, uint32_t comm, const void *send, void *receive,
                            const uint32_t *counts, uint8_t type, wz_request *request);
+/* tools/words: end of persistent */
 
 /* ---- completion of requests that the calls above made. Null requests are complete. */
 

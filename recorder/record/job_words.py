@@ -7,6 +7,9 @@ KINDS = {"Barrier": "barrier", "Bcast": "bcast", "Gather": "gather", "Scatter": 
 # What a member gives, in blocks: none, its own, all members' blocks, or so many elements as its count says; `root`: the root alone.
 GIVEN = {"barrier": "none", "bcast": "root", "gather": "own", "scatter": "root all", "allgather": "own", "alltoall": "all", "reduce": "own",
          "allreduce": "own", "rsblock": "all", "scan": "own", "exscan": "own", "allgatherv": "counted"}
+# Whom a member's value needs: all, the root, `root all`: the root needs all and others nobody else, or lower members, with it or without.
+NEEDS = {"Barrier": "all", "Bcast": "root", "Gather": "root all", "Scatter": "root", "Allgather": "all", "Alltoall": "all", "Reduce": "root all",
+         "Allreduce": "all", "Reduce_scatter_block": "all", "Scan": "lower own", "Exscan": "lower", "Allgatherv": "all"}
 ROOTED = ["bcast", "gather", "scatter", "reduce"]
 COMBINING = ["reduce", "allreduce", "rsblock", "scan", "exscan"]
 # By MPI's names.
@@ -27,3 +30,11 @@ WIDTHS = {"i8": 1, "i16": 2, "i32": 4, "i64": 8, "u8": 1, "u16": 2, "u32": 4, "u
 INTEGERS = {"i8": (-(1 << 7), (1 << 7) - 1), "i16": (-(1 << 15), (1 << 15) - 1), "i32": (-(1 << 31), (1 << 31) - 1),
             "i64": (-(1 << 63), (1 << 63) - 1), "u8": (0, (1 << 8) - 1), "u16": (0, (1 << 16) - 1), "u32": (0, (1 << 32) - 1),
             "u64": (0, (1 << 64) - 1)}
+
+
+def blocks_given(kind, is_root, members):
+    """How many blocks a member gives; one, of its own count, where members have counts."""
+    rule = GIVEN[kind].split()
+    if rule == ["none"] or "root" in rule and not is_root:
+        return 0
+    return members if "all" in rule else 1

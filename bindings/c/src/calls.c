@@ -17,29 +17,45 @@ static uint32_t member_of(const struct wz_combiner *combiner, uint32_t comm, uin
     return member;
 }
 
-/* How many blocks a member gives, and gets. */
-static size_t blocks_given(uint8_t kind, bool is_root, size_t members) {
+/* tools/words: blocks */
+size_t wz_blocks_given(uint8_t kind, uint32_t member, uint32_t root, size_t members) {
+    bool is_root = member == root;
     switch (kind) {
-    case WZ_BARRIER: return 0;
+    case WZ_BARRIER:
+    case WZ_ALLGATHERV: return 0;
     case WZ_BCAST: return is_root ? 1 : 0;
+    case WZ_GATHER:
+    case WZ_ALLGATHER:
+    case WZ_REDUCE:
+    case WZ_ALLREDUCE:
+    case WZ_SCAN:
+    case WZ_EXSCAN: return 1;
     case WZ_SCATTER: return is_root ? members : 0;
     case WZ_ALLTOALL:
     case WZ_REDUCE_SCATTER_BLOCK: return members;
-    default: return 1;
+    default: return 0;
     }
 }
 
-static size_t blocks_got(uint8_t kind, bool is_root, bool is_first, size_t members) {
+size_t wz_blocks_got(uint8_t kind, uint32_t member, uint32_t root, size_t members) {
+    bool is_root = member == root;
     switch (kind) {
-    case WZ_BARRIER: return 0;
+    case WZ_BARRIER:
+    case WZ_ALLGATHERV: return 0;
+    case WZ_BCAST:
+    case WZ_SCATTER:
+    case WZ_ALLREDUCE:
+    case WZ_REDUCE_SCATTER_BLOCK:
+    case WZ_SCAN: return 1;
     case WZ_GATHER: return is_root ? members : 0;
     case WZ_ALLGATHER:
     case WZ_ALLTOALL: return members;
     case WZ_REDUCE: return is_root ? 1 : 0;
-    case WZ_EXSCAN: return is_first ? 0 : 1;
-    default: return 1;
+    case WZ_EXSCAN: return member > 0 ? 1 : 0;
+    default: return 0;
     }
 }
+/* tools/words: end of blocks */
 
 /* Who asks for a collective, and how. */
 struct caller {
@@ -72,14 +88,15 @@ static int32_t make(struct caller caller, wz_call call, struct memory memory) {
     if (combiner != NULL && caller.comm < MOST_COMMUNICATORS) {
         uint32_t member = member_of(combiner, caller.comm, caller.rank);
         size_t block = call.count * wz_type_bytes(call.type), members = combiner->sizes[caller.comm];
-        operation.length = block * blocks_given(call.kind, member == call.root, members);
-        operation.room = block * blocks_got(call.kind, member == call.root, member == 0, members);
+        operation.length = block * wz_blocks_given(call.kind, member, call.root, members);
+        operation.room = block * wz_blocks_got(call.kind, member, call.root, members);
     }
     operation.call = &call;
     return perform_made(caller, &operation, memory);
 }
 
-static int32_t make_allgatherv(struct caller caller, uint8_t type, const uint32_t *counts, struct memory memory) {
+/* The same of an allgatherv. */
+static int32_t make_counted(struct caller caller, uint8_t type, const uint32_t *counts, struct memory memory) {
     const struct wz_combiner *combiner = caller.shared->at;
     struct operation operation = caller.persistent ? operation_of(ONCE, caller.rank, apply_init_allgatherv)
                                                    : operation_of(BEGINS, caller.rank, apply_post_allgatherv);
@@ -96,6 +113,7 @@ static int32_t make_allgatherv(struct caller caller, uint8_t type, const uint32_
 
 /* ---- nonblocking */
 
+/* tools/words: nonblocking */
 int32_t wz_ibarrier(wz_shared *shared, uint8_t rank, uint32_t comm, wz_request *request) {
     struct caller caller = { shared, rank, comm, false, request };
     return make(caller, (wz_call){ WZ_BARRIER, WZ_NO_OPERATION, WZ_BYTE, 0, 0 }, (struct memory){ NULL, NULL });
@@ -164,11 +182,13 @@ int32_t wz_iexscan(wz_shared *shared, uint8_t rank, uint32_t comm, const void *s
 int32_t wz_iallgatherv(wz_shared *shared, uint8_t rank, uint32_t comm, const void *send, void *receive,
                        const uint32_t *counts, uint8_t type, wz_request *request) {
     struct caller caller = { shared, rank, comm, false, request };
-    return make_allgatherv(caller, type, counts, (struct memory){ send, receive });
+    return make_counted(caller, type, counts, (struct memory){ send, receive });
 }
+/* tools/words: end of nonblocking */
 
 /* ---- persistent */
 
+/* tools/words: persistent */
 int32_t wz_barrier_init(wz_shared *shared, uint8_t rank, uint32_t comm, wz_request *request) {
     struct caller caller = { shared, rank, comm, true, request };
     return make(caller, (wz_call){ WZ_BARRIER, WZ_NO_OPERATION, WZ_BYTE, 0, 0 }, (struct memory){ NULL, NULL });
@@ -237,8 +257,9 @@ int32_t wz_exscan_init(wz_shared *shared, uint8_t rank, uint32_t comm, const voi
 int32_t wz_allgatherv_init(wz_shared *shared, uint8_t rank, uint32_t comm, const void *send, void *receive,
                            const uint32_t *counts, uint8_t type, wz_request *request) {
     struct caller caller = { shared, rank, comm, true, request };
-    return make_allgatherv(caller, type, counts, (struct memory){ send, receive });
+    return make_counted(caller, type, counts, (struct memory){ send, receive });
 }
+/* tools/words: end of persistent */
 
 /* ---- completion */
 

@@ -76,13 +76,22 @@ const char *wz_type_word(uint8_t type) {
     static const char *const words[] = { "i8", "i16", "i32", "i64", "u8", "u16", "u32", "u64", "byte", "2int" };
     return type < WZ_TYPES ? words[type] : "?";
 }
-/* tools/words: end of words */
 
-bool wz_has_operation(uint8_t kind) { return kind >= WZ_REDUCE && kind <= WZ_EXSCAN; }
+bool wz_has_operation(uint8_t kind) {
+    static const bool has_operation[WZ_KINDS] = {
+        [WZ_REDUCE] = true, [WZ_ALLREDUCE] = true, [WZ_REDUCE_SCATTER_BLOCK] = true, [WZ_SCAN] = true,
+        [WZ_EXSCAN] = true
+    };
+    return kind < WZ_KINDS && has_operation[kind];
+}
 
 bool wz_has_root(uint8_t kind) {
-    return kind == WZ_BCAST || kind == WZ_GATHER || kind == WZ_SCATTER || kind == WZ_REDUCE;
+    static const bool has_root[WZ_KINDS] = {
+        [WZ_BCAST] = true, [WZ_GATHER] = true, [WZ_SCATTER] = true, [WZ_REDUCE] = true
+    };
+    return kind < WZ_KINDS && has_root[kind];
 }
+/* tools/words: end of words */
 
 wz_posted wz_posted_of_call(const wz_call *call, bool persistent) {
     wz_posted posted;

@@ -49,39 +49,43 @@ impl Kind {
         (Kind::Exscan, "exscan"),
         (Kind::Allgatherv, "allgatherv"),
     ];
+
+    fn has_root(self) -> bool {
+        matches!(self, Kind::Bcast | Kind::Gather | Kind::Scatter | Kind::Reduce)
+    }
 }
 // tools/words: end of kinds
 
 // tools/words: operations
-/// An operation (MPI 4.1, 6.9.2 and 6.9.4).
+/// An operation on a lower member's element a and a higher one's b (MPI 4.1, 6.9.2 and 6.9.4).
 #[derive(Clone, Copy, Debug, PartialEq, Eq, Hash)]
 #[repr(u8)]
 pub enum Op {
-    /// `MPI_MAX`
+    /// `MPI_MAX`: the greater
     Max = 1,
-    /// `MPI_MIN`
+    /// `MPI_MIN`: the lesser
     Min,
-    /// `MPI_SUM`, wrapped to the type's bits
+    /// `MPI_SUM`: the sum, wrapped to the type's bits
     Sum,
-    /// `MPI_PROD`, wrapped to the type's bits
+    /// `MPI_PROD`: the product, wrapped to the type's bits
     Prod,
-    /// `MPI_LAND`
+    /// `MPI_LAND`: 1 where both are nonzero, else 0
     Land,
-    /// `MPI_LOR`
+    /// `MPI_LOR`: 1 where at least one is nonzero, else 0
     Lor,
-    /// `MPI_LXOR`
+    /// `MPI_LXOR`: 1 where exactly one is nonzero, else 0
     Lxor,
-    /// `MPI_BAND`
+    /// `MPI_BAND`: the bits that both have
     Band,
-    /// `MPI_BOR`
+    /// `MPI_BOR`: the bits that at least one has
     Bor,
-    /// `MPI_BXOR`
+    /// `MPI_BXOR`: the bits that exactly one has
     Bxor,
-    /// The second element where it isn't 0, else the first; not commutative, as a user's may be
+    /// B where b isn't 0, else a; not commutative, as a user's may be
     LastNz,
-    /// `MPI_MAXLOC`
+    /// `MPI_MAXLOC`: the pair with the greater value, of equal values the one with the lesser index
     MaxLoc,
-    /// `MPI_MINLOC`
+    /// `MPI_MINLOC`: the pair with the lesser value, of equal values the one with the lesser index
     MinLoc,
 }
 
@@ -133,9 +137,9 @@ pub enum Type {
     U32,
     /// `MPI_UINT64_T`
     U64,
-    /// `MPI_BYTE`, for the operations on bits alone
+    /// `MPI_BYTE`: for the operations on bits alone
     Byte,
-    /// `MPI_2INT`, a value and its index, each an int32_t; for maxloc and minloc alone
+    /// `MPI_2INT`: a value and its index, each an int32_t; for maxloc and minloc alone
     Pair,
 }
 
@@ -175,7 +179,8 @@ impl Call {
         Call { kind, op, ty, root, count }
     }
 
-    /// A barrier.
+    // tools/words: calls
+    /// It is complete once all members have come to it.
     pub fn barrier() -> Call {
         Call::new(Kind::Barrier, NO_OPERATION, Type::Byte, 0, 0)
     }
@@ -229,6 +234,7 @@ impl Call {
     pub fn exscan(op: Op, ty: Type, count: u32) -> Call {
         Call::new(Kind::Exscan, op as u8, ty, 0, count)
     }
+    // tools/words: end of calls
 
     /// Which collective it is.
     pub fn kind(&self) -> Kind {
@@ -276,7 +282,7 @@ impl fmt::Display for Call {
             write!(f, ", {op}")?;
         }
         write!(f, ", {ty}")?;
-        if matches!(self.kind, Kind::Bcast | Kind::Gather | Kind::Scatter | Kind::Reduce) {
+        if self.kind.has_root() {
             write!(f, ", root {}", self.root)?;
         }
         if self.kind == Kind::Allgatherv {

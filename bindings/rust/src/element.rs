@@ -36,7 +36,9 @@ macro_rules! elements {
     )*};
 }
 
+// tools/words: elements
 elements!(i8 is I8, i16 is I16, i32 is I32, i64 is I64, u8 is U8, u16 is U16, u32 is U32, u64 is U64);
+// tools/words: end of elements
 
 /// The bytes of elements, as a post or a start takes them.
 ///

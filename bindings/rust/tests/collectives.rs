@@ -61,32 +61,52 @@ fn a_persistent_request_is_started_again() {
     });
 }
 
+/// A call, with what each member gives and gets.
+type Example = (Call, Vec<&'static [u8]>, Vec<&'static [u8]>);
+
+fn examples() -> Vec<Example> {
+    vec![
+        // tools/words: examples
+        (Call::barrier(), vec![&[], &[], &[]], vec![&[], &[], &[]]),
+        (Call::bcast(1, Type::U8, 1), vec![&[], &[7], &[]], vec![&[7], &[7], &[7]]),
+        (Call::gather(1, Type::U8, 1), vec![&[1], &[2], &[3]], vec![&[], &[1, 2, 3], &[]]),
+        (Call::scatter(1, Type::U8, 1), vec![&[], &[1, 2, 3], &[]], vec![&[1], &[2], &[3]]),
+        (Call::allgather(Type::U8, 1), vec![&[1], &[2], &[3]], vec![&[1, 2, 3], &[1, 2, 3], &[1, 2, 3]]),
+        (Call::alltoall(Type::U8, 1), vec![&[1, 2, 3], &[4, 5, 6], &[7, 8, 9]], vec![&[1, 4, 7], &[2, 5, 8], &[3, 6, 9]]),
+        (Call::reduce(1, Op::Sum, Type::U8, 1), vec![&[1], &[2], &[3]], vec![&[], &[6], &[]]),
+        (Call::allreduce(Op::Sum, Type::U8, 1), vec![&[1], &[2], &[3]], vec![&[6], &[6], &[6]]),
+        (Call::reduce_scatter_block(Op::Sum, Type::U8, 1), vec![&[1, 2, 3], &[4, 5, 6], &[7, 8, 9]], vec![&[12], &[15], &[18]]),
+        (Call::scan(Op::Sum, Type::U8, 1), vec![&[1], &[2], &[3]], vec![&[1], &[3], &[6]]),
+        (Call::exscan(Op::Sum, Type::U8, 1), vec![&[1], &[2], &[3]], vec![&[], &[1], &[3]]),
+        (Call::allreduce(Op::Max, Type::I8, 1), vec![&[255], &[128], &[254]], vec![&[255], &[255], &[255]]),
+        (Call::allreduce(Op::Min, Type::U16, 1), vec![&[188, 2], &[3, 0]], vec![&[3, 0], &[3, 0]]),
+        (Call::allreduce(Op::Sum, Type::I8, 1), vec![&[127], &[1], &[0]], vec![&[128], &[128], &[128]]),
+        (Call::allreduce(Op::Prod, Type::U8, 1), vec![&[20], &[13], &[2]], vec![&[8], &[8], &[8]]),
+        (Call::allreduce(Op::Land, Type::I32, 1), vec![&[5, 0, 0, 0], &[5, 0, 0, 0]], vec![&[1, 0, 0, 0], &[1, 0, 0, 0]]),
+        (Call::allreduce(Op::Lor, Type::I16, 1), vec![&[0, 0], &[4, 0], &[0, 0]], vec![&[1, 0], &[1, 0], &[1, 0]]),
+        (Call::allreduce(Op::Lxor, Type::I8, 1), vec![&[5], &[5], &[5]], vec![&[1], &[1], &[1]]),
+        (Call::allreduce(Op::Band, Type::Byte, 1), vec![&[12], &[10]], vec![&[8], &[8]]),
+        (Call::allreduce(Op::Bor, Type::U64, 1), vec![&[12, 0, 0, 0, 0, 0, 0, 0], &[10, 0, 0, 0, 0, 0, 0, 0]], vec![&[14, 0, 0, 0, 0, 0, 0, 0], &[14, 0, 0, 0, 0, 0, 0, 0]]),
+        (Call::allreduce(Op::Bxor, Type::Byte, 1), vec![&[12], &[10]], vec![&[6], &[6]]),
+        (Call::allreduce(Op::LastNz, Type::I32, 1), vec![&[3, 0, 0, 0], &[0, 0, 0, 0], &[5, 0, 0, 0], &[0, 0, 0, 0]], vec![&[5, 0, 0, 0], &[5, 0, 0, 0], &[5, 0, 0, 0], &[5, 0, 0, 0]]),
+        (Call::allreduce(Op::MaxLoc, Type::Pair, 1), vec![&[7, 0, 0, 0, 2, 0, 0, 0], &[9, 0, 0, 0, 5, 0, 0, 0], &[9, 0, 0, 0, 1, 0, 0, 0]], vec![&[9, 0, 0, 0, 1, 0, 0, 0], &[9, 0, 0, 0, 1, 0, 0, 0], &[9, 0, 0, 0, 1, 0, 0, 0]]),
+        (Call::allreduce(Op::MinLoc, Type::Pair, 1), vec![&[7, 0, 0, 0, 4, 0, 0, 0], &[7, 0, 0, 0, 2, 0, 0, 0], &[9, 0, 0, 0, 1, 0, 0, 0]], vec![&[7, 0, 0, 0, 2, 0, 0, 0], &[7, 0, 0, 0, 2, 0, 0, 0], &[7, 0, 0, 0, 2, 0, 0, 0]]),
+        // tools/words: end of examples
+    ]
+}
+
 #[test]
-fn each_kind_has_its_value() {
-    let engine = Engine::of_ranks(2).unwrap();
-    by_ranks(&engine, 2, |port, rank| {
-        let value = |call: Call, gives: &[u8]| {
-            let mut request = port.post(0, call, gives).unwrap();
+fn each_kind_and_operation_has_its_value() {
+    for (call, given, got) in examples() {
+        let members = given.len() as u8;
+        let engine = Engine::of_ranks(members).unwrap();
+        by_ranks(&engine, members, |port, rank| {
+            let mut request = port.post(0, call, given[usize::from(rank)]).unwrap();
             let mut out = [99; 8];
             let count = port.wait(&mut request, &mut out).unwrap();
-            out[..count].to_vec()
-        };
-        let me = [rank + 1];
-        let row = [rank * 2 + 1, rank * 2 + 2];
-        let at = |root: u8, of_root: &[u8]| if rank == root { of_root.to_vec() } else { vec![] };
-        let own = |of_each: [u8; 2]| vec![of_each[usize::from(rank)]];
-        assert_eq!(value(Call::barrier(), &[]), []);
-        assert_eq!(value(Call::bcast(1, Type::Byte, 1), &at(1, &[7])), [7]);
-        assert_eq!(value(Call::gather(0, Type::U8, 1), &me), at(0, &[1, 2]));
-        assert_eq!(value(Call::scatter(1, Type::U8, 1), &at(1, &[5, 6])), own([5, 6]));
-        assert_eq!(value(Call::allgather(Type::U8, 1), &me), [1, 2]);
-        assert_eq!(value(Call::alltoall(Type::U8, 1), &row), if rank == 0 { [1, 3] } else { [2, 4] });
-        assert_eq!(value(Call::reduce(1, Op::Prod, Type::U8, 1), &me), at(1, &[2]));
-        assert_eq!(value(Call::allreduce(Op::Bxor, Type::Byte, 1), &me), [3]);
-        assert_eq!(value(Call::reduce_scatter_block(Op::Sum, Type::U8, 1), &row), own([4, 6]));
-        assert_eq!(value(Call::scan(Op::Sum, Type::U8, 1), &me), own([1, 3]));
-        assert_eq!(value(Call::exscan(Op::Sum, Type::U8, 1), &me), if rank == 0 { vec![] } else { vec![1] });
-    });
+            assert_eq!(out[..count], *got[usize::from(rank)], "{call} at rank {rank}");
+        });
+    }
 }
 
 #[test]
