@@ -3,6 +3,8 @@
 import functools
 import math
 
+from job_words import COMBINING, KINDS
+
 # Basic types that are alike in all but their names, beside their size.
 ALIKE = {
     "signed": "INT LONG LONG_LONG LONG_LONG_INT SHORT SIGNED_CHAR INT8_T INT16_T INT32_T INT64_T AINT OFFSET COUNT INTEGER INTEGER1 INTEGER2 INTEGER4 INTEGER8",
@@ -26,7 +28,7 @@ INTERPRETED = ("mpi4py", "libjulia", "Rmpi")
 SAME, BY_LETTER, DIFFERENT = 0, 1, 2
 
 # Only the kind of a call is compared where its arguments may differ, or aren't recorded.
-EQUAL = {"Bcast", "Reduce", "Allreduce", "Scan", "Exscan", "Reduce_scatter_block"}
+EQUAL = {name for name, kind in KINDS.items() if kind == "bcast" or kind in COMBINING}
 MOST_RUNS = 4096
 
 # How many of a type's runs are shown where they suffice.

@@ -1,5 +1,6 @@
 #include "calls.h"
 
+#include "job_words.h"
 #include "log.h"
 #include "types.h"
 
@@ -70,29 +71,30 @@ struct gift write_call(const struct call *call) {
     return (struct gift){stands ? type->word : NULL, call->given, call->count, call->blocks};
 }
 
+#define SIGNED(name, constant, mpi, ctype, ...)                                                                                             \
+    if (!strcmp(word, #name))                                                                                                                \
+        log_signed(((const ctype *)given)[place]);                                                                                          \
+    else
+#define UNSIGNED(name, constant, mpi, ctype, ...)                                                                                           \
+    if (!strcmp(word, #name))                                                                                                                \
+        log_unsigned(((const ctype *)given)[place]);                                                                                        \
+    else
+
+static void write_value(const char *word, const void *given, long place) {
+    EACH_SIGNED(SIGNED, )
+    EACH_UNSIGNED(UNSIGNED, )
+    if (!strcmp(word, "2int")) {
+        log_signed(((const int *)given)[2 * place]);
+        log_text(",");
+        log_signed(((const int *)given)[2 * place + 1]);
+    } else
+        log_unsigned(((const uint8_t *)given)[place]);
+}
+
 static void write_values(const char *word, const void *given, long count) {
     for (long place = 0; place < count; place++) {
         log_text(" ");
-        if (!strcmp(word, "i32"))
-            log_signed(((const int32_t *)given)[place]);
-        else if (!strcmp(word, "i64"))
-            log_signed(((const int64_t *)given)[place]);
-        else if (!strcmp(word, "i16"))
-            log_signed(((const int16_t *)given)[place]);
-        else if (!strcmp(word, "i8"))
-            log_signed(((const int8_t *)given)[place]);
-        else if (!strcmp(word, "u64"))
-            log_unsigned(((const uint64_t *)given)[place]);
-        else if (!strcmp(word, "u32"))
-            log_unsigned(((const uint32_t *)given)[place]);
-        else if (!strcmp(word, "u16"))
-            log_unsigned(((const uint16_t *)given)[place]);
-        else if (!strcmp(word, "2int")) {
-            log_signed(((const int *)given)[2 * place]);
-            log_text(",");
-            log_signed(((const int *)given)[2 * place + 1]);
-        } else
-            log_unsigned(((const uint8_t *)given)[place]);
+        write_value(word, given, place);
     }
 }
 

@@ -4,7 +4,7 @@ import collections
 
 from agreement import SAME, call_name, compare_data, part
 from differences import difference_lines
-from job_words import KINDS, OPERATIONS, WIDTHS
+from job_words import KINDS, OPERATIONS, WIDTHS, blocks_given
 from records import rank_words
 from text_places import LAST, MADE, NOT_JUDGED
 
@@ -94,15 +94,6 @@ def combined(call, kind, element, count, waits, why):
     if element.word == "byte":
         return Signature(kind, call.root, word, "u8", [count * element.each], False, waits, why or "bytes under this operation stand as u8, with zeros")
     return Signature(kind, call.root, word, element.word, [count * element.each], exact, waits, why)
-
-
-def blocks_given(signature, member, size):
-    """How many times its count a member gives."""
-    if signature.kind == "barrier":
-        return 0
-    if signature.kind in ("bcast", "scatter"):
-        return 0 if member != signature.root else 1 if signature.kind == "bcast" else size
-    return size if signature.kind in ("alltoall", "rsblock") else 1
 
 
 class Job:
@@ -237,7 +228,7 @@ class Job:
         """What stands after the signature or the request's number, with zeros for what isn't known."""
         signature, count = self.signature(rank, command), self.own_count(rank, command)
         members = self.contexts.members(command.key)
-        blocks = blocks_given(signature, members.index(rank), len(members))
+        blocks = blocks_given(signature.kind, members.index(rank) == signature.root, len(members))
         count_there = self.stand_ins.get(count, count)
         if gift[:1] == [":"] and signature.exact and count not in self.stand_ins:
             return gift

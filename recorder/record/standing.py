@@ -8,6 +8,7 @@ import struct
 
 from agreement import amount, call_name, is_empty
 from job_text import MULTIPLE, WAITED
+from job_words import COMBINING, KINDS, NEEDS
 from records import rank_words
 
 THREADS, SHOWN, MESSAGES, VERSION = 64, 24, 4096, 1
@@ -26,18 +27,25 @@ STANDS, RAN, ASLEEP = 0.5, 1e6, 3
 Awaited = collections.namedtuple("Awaited", "kind context rank tag index place form")
 Thread = collections.namedtuple("Thread", "number since calls inside place count any ran asleep name awaited")
 
+# Collectives that no job text has, by those that need the same members.
+LIKE = {"Gatherv": "Gather", "Scatterv": "Scatter", "Alltoallv": "Alltoall", "Alltoallw": "Alltoall", "Reduce_scatter": "Reduce_scatter_block",
+        "Comm_split": "Barrier", "Comm_dup": "Barrier"}
+
 def givers(call, member, size):
     """The members without whose call a collective can't be complete at one of SIZE members, whatever the library: those that give it something."""
-    every, name = range(size), call.name
-    if name in ("Barrier", "Comm_split", "Comm_dup"):
+    every, name = range(size), LIKE.get(call.name, call.name)
+    needs, kind = NEEDS.get(name), KINDS.get(name)
+    if needs is None or needs == "root all" and member != call.root:
+        return []
+    if kind == "barrier":
         return every
-    if name in ("Allgather", "Allgatherv", "Alltoall", "Alltoallv", "Alltoallw") or name in ("Gather", "Gatherv") and member == call.root:
+    if needs == "root":
+        return [call.root] if amount(call.sent if kind == "bcast" else call.got, 0) and call.root in every else []
+    if kind not in COMBINING:
         return [it for it in every if amount(call.got, it)]
-    if name in ("Bcast", "Scatter", "Scatterv"):
-        return [call.root] if amount(call.sent if name == "Bcast" else call.got, 0) and call.root in every else []
-    if name in ("Allreduce", "Reduce_scatter", "Reduce_scatter_block") or name == "Reduce" and member == call.root:
-        return every if amount(call.sent, member if name == "Reduce_scatter" else 0) else []
-    return range(member) if name in ("Scan", "Exscan") and amount(call.sent, 0) else []
+    if not amount(call.sent, member if call.name == "Reduce_scatter" else 0):
+        return []
+    return every if needs == "all" or needs == "root all" else range(member)
 
 
 def moves_nothing(call):

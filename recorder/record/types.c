@@ -15,12 +15,19 @@ enum { RUNS = 64, BUCKETS = 256 };
 static struct type *types[BUCKETS];
 static int type_numbers;
 
-/* The words for integers by width, signed and unsigned. */
-static const char *const SIGNED[] = {"i8", "i16", "i32", "i64"};
-static const char *const UNSIGNED[] = {"u8", "u16", "u32", "u64"};
+#define OF_WIDTH(word, constant, mpi, ctype, ...)                                                                                           \
+    if (bytes == sizeof(ctype))                                                                                                             \
+        return #word;
 
-static const char *by_width(const char *const *words, long long bytes) {
-    return bytes == 1 ? words[0] : bytes == 2 ? words[1] : bytes == 4 ? words[2] : bytes == 8 ? words[3] : NULL;
+/* The words for integers by width. */
+static const char *signed_of(long long bytes) {
+    EACH_SIGNED(OF_WIDTH, )
+    return NULL;
+}
+
+static const char *unsigned_of(long long bytes) {
+    EACH_UNSIGNED(OF_WIDTH, )
+    return NULL;
 }
 
 static long long bytes_of(MPI_Datatype type) {
@@ -30,24 +37,26 @@ static long long bytes_of(MPI_Datatype type) {
     return (long long)bytes;
 }
 
-/* The word of a basic type that a job text has, or null. */
+#define WORD_OF(word, mpi, bytes, has_sign)                                                                                                 \
+    if (type == (mpi))                                                                                                                      \
+        return word;
+
+/* The word of a basic type that a job text has, or of one that is like it, or null. */
 static const char *text_word(MPI_Datatype type) {
-    static const MPI_Datatype with_sign[] = {MPI_INT,      MPI_LONG,     MPI_LONG_LONG, MPI_SHORT,    MPI_SIGNED_CHAR, MPI_CHAR,
-                                             MPI_INT8_T,   MPI_INT16_T,  MPI_INT32_T,   MPI_INT64_T,  MPI_AINT,        MPI_OFFSET,
-                                             MPI_COUNT,    MPI_WCHAR,    MPI_INTEGER,   MPI_INTEGER1, MPI_INTEGER2,    MPI_INTEGER4,
-                                             MPI_INTEGER8, MPI_LOGICAL,  MPI_CHARACTER};
-    static const MPI_Datatype without[] = {MPI_UNSIGNED, MPI_UNSIGNED_LONG, MPI_UNSIGNED_LONG_LONG, MPI_UNSIGNED_SHORT, MPI_UNSIGNED_CHAR,
-                                           MPI_UINT8_T,  MPI_UINT16_T,      MPI_UINT32_T,           MPI_UINT64_T,       MPI_C_BOOL};
-    if (type == MPI_BYTE || type == MPI_PACKED)
+    static const MPI_Datatype with_sign[] = {MPI_INT,  MPI_LONG,   MPI_LONG_LONG, MPI_SHORT, MPI_SIGNED_CHAR, MPI_CHAR,     MPI_AINT,     MPI_OFFSET,  MPI_COUNT,
+                                             MPI_WCHAR, MPI_INTEGER, MPI_INTEGER1, MPI_INTEGER2, MPI_INTEGER4, MPI_INTEGER8, MPI_LOGICAL, MPI_CHARACTER};
+    static const MPI_Datatype without[] = {MPI_UNSIGNED, MPI_UNSIGNED_LONG, MPI_UNSIGNED_LONG_LONG, MPI_UNSIGNED_SHORT, MPI_UNSIGNED_CHAR, MPI_C_BOOL};
+    EACH_TYPE(WORD_OF)
+    if (type == MPI_PACKED)
         return "byte";
-    if (type == MPI_2INT || type == MPI_2INTEGER)
+    if (type == MPI_2INTEGER)
         return "2int";
     for (size_t place = 0; place < sizeof with_sign / sizeof *with_sign; place++)
         if (type == with_sign[place])
-            return by_width(SIGNED, bytes_of(type));
+            return signed_of(bytes_of(type));
     for (size_t place = 0; place < sizeof without / sizeof *without; place++)
         if (type == without[place])
-            return by_width(UNSIGNED, bytes_of(type));
+            return unsigned_of(bytes_of(type));
     return NULL;
 }
 
@@ -167,7 +176,7 @@ static void choose_word(struct type *type, const struct signature *signature) {
     type->each = type->word ? signature->runs[0].times : (long)(bytes / width);
     type->exact = basic == type->handle && type->word;
     if (!type->word)
-        type->word = by_width(UNSIGNED, width);
+        type->word = unsigned_of(width);
 }
 
 /* `type NUMBER WORD EACH EXACT BYTES NAME/BYTES*TIMES ..`, with `?` where the signature isn't known to its end. */

@@ -4,10 +4,10 @@
    and stops at what it can't carry out. */
 #define _POSIX_C_SOURCE 200809L
 #include "../record/job_words.h"
+#include "persistent.h"
 
 #include <ctype.h>
 #include <errno.h>
-#include <mpi.h>
 #include <stdarg.h>
 #include <stdbool.h>
 #include <stdint.h>
@@ -16,15 +16,7 @@
 #include <string.h>
 #include <sys/wait.h>
 #include <unistd.h>
-#ifdef OPEN_MPI
-#include <mpi-ext.h>
-#endif
-
-#if MPI_VERSION >= 4
-#define INIT(Name) MPI_##Name##_init
-#elif defined(OMPI_HAVE_MPI_EXT_PCOLLREQ)
-#define INIT(Name) MPIX_##Name##_init
-#else
+#ifndef INIT
 #error "this MPI library has no persistent collectives"
 #endif
 
@@ -44,10 +36,10 @@ struct text {
     struct line *lines;
 };
 
-#define CONSTANT(constant, word, root, op) constant,
+#define CONSTANT(constant, ...) constant,
 enum kind { EACH_KIND(CONSTANT) KINDS };
 
-#define KIND(constant, word, root, op) [constant] = {word, root, op},
+#define KIND(constant, word, Name, name, root, op, ...) [constant] = {word, root, op},
 static const struct {
     const char *word;
     bool root, op;
@@ -89,7 +81,6 @@ struct player {
     struct request *requests;
 };
 
-static MPI_Op last_nonzero;
 static int process;
 static bool reading;
 
@@ -232,27 +223,49 @@ static const struct type *find_type(const char *word) {
     return NULL;
 }
 
-#define OPERATION(word, op) {word, op},
-static MPI_Op find_op(const char *word) {
-    const struct {
-        const char *word;
-        MPI_Op op;
-    } ops[] = {EACH_MPI_OPERATION(OPERATION)};
-    for (size_t place = 0; place < sizeof ops / sizeof *ops; place++)
-        if (!strcmp(word, ops[place].word))
-            return ops[place].op;
-    return !strcmp(word, "lastnz") ? last_nonzero : MPI_OP_NULL;
+/* An operation that MPI hasn't, as a function of the user's for each of its types. */
+#define COMBINE(word, constant, mpi, ctype, name, statement)                                                                                \
+    static void name##_of_##word(void *left, void *right, int *count, MPI_Datatype *type) {                                                 \
+        const ctype *lefts = left;                                                                                                          \
+        ctype *rights = right;                                                                                                              \
+        (void)type;                                                                                                                         \
+        for (int place = 0; place < *count; place++) {                                                                                      \
+            ctype a = lefts[place], b = rights[place];                                                                                      \
+            statement;                                                                                                                      \
+            rights[place] = a;                                                                                                              \
+        }                                                                                                                                   \
+    }
+#define COMBINE_EACH(name, types, statement) types(COMBINE, name, statement)
+EACH_OWN_OPERATION(COMBINE_EACH)
+
+/* The operations. One that MPI hasn't is made of its function, for each type of its elements. */
+#define OPERATION(word, op) {word, NULL, op, NULL},
+#define OWN_OF_TYPE(word, constant, mpi, ctype, name, statement) {#name, #word, MPI_OP_NULL, name##_of_##word},
+#define OWN_OPERATION(name, types, statement) types(OWN_OF_TYPE, name, statement)
+static struct operation {
+    const char *word, *type; /* null: for every type */
+    MPI_Op op;
+    MPI_User_function *function; /* null: MPI has it */
+} operations[] = {EACH_MPI_OPERATION(OPERATION) EACH_OWN_OPERATION(OWN_OPERATION)};
+enum { OPERATIONS = sizeof operations / sizeof *operations };
+
+static MPI_Op find_op(const char *word, const char *type) {
+    for (size_t place = 0; place < OPERATIONS; place++)
+        if (!strcmp(word, operations[place].word) && (!operations[place].type || !strcmp(type, operations[place].type)))
+            return operations[place].op;
+    return MPI_OP_NULL;
 }
 
-/* The operation `lastnz`: the right element where it isn't 0. An element is 0 where all of its bytes are. */
-static void take_last_nonzero(void *left, void *right, int *count, MPI_Datatype *type) {
-    unsigned char *from = left, *to = right;
-    static const unsigned char zero[8];
-    int width;
-    MPI_Type_size(*type, &width);
-    for (int place = 0; place < *count; place++, from += width, to += width)
-        if (!memcmp(to, zero, (size_t)width))
-            memcpy(to, from, (size_t)width);
+static void make_operations(void) {
+    for (size_t place = 0; place < OPERATIONS; place++)
+        if (operations[place].function)
+            MPI_Op_create(operations[place].function, 0, &operations[place].op);
+}
+
+static void free_operations(void) {
+    for (size_t place = 0; place < OPERATIONS; place++)
+        if (operations[place].function)
+            MPI_Op_free(&operations[place].op);
 }
 
 static enum kind find_kind(const char *word) {
@@ -289,7 +302,8 @@ static struct request read_request(struct player *player, int *end) {
     if (kinds[request.kind].root)
         request.root = number_of(text, line, next++, request.size);
     if (kinds[request.kind].op) {
-        request.op = next < line->count ? find_op(line->words[next++]) : MPI_OP_NULL;
+        request.op = next + 1 < line->count ? find_op(line->words[next], line->words[next + 1]) : MPI_OP_NULL;
+        next++;
         if (request.op == MPI_OP_NULL)
             stop(text->name, line->number, "there is no such operation");
     }
@@ -306,30 +320,16 @@ static struct request read_request(struct player *player, int *end) {
     return request;
 }
 
-/* How many elements the rank gives and gets. */
-static int elements_given(const struct request *it) {
-    bool root = it->rank == it->root;
-    switch (it->kind) {
-    case BARRIER: return 0;
-    case BCAST: return root ? it->count : 0;
-    case SCATTER: return root ? it->count * it->size : 0;
-    case ALLTOALL:
-    case REDUCE_SCATTER_BLOCK: return it->count * it->size;
-    default: return it->count;
-    }
-}
+#define ELEMENTS(constant, word, Name, name, has_root, has_op, buffers, root, given, got)                                                    \
+    case constant: return is_given ? given : got;
 
-static int elements_got(const struct request *it) {
-    bool root = it->rank == it->root;
+/* How many elements the rank gives, or gets. */
+static int elements(const struct request *it, bool is_given) {
+    int count = it->count, members = it->size, total = it->total;
+    bool is_root = it->rank == it->root, is_first = it->rank == 0;
     switch (it->kind) {
-    case BARRIER: return 0;
-    case GATHER: return root ? it->count * it->size : 0;
-    case REDUCE: return root ? it->count : 0;
-    case ALLGATHER:
-    case ALLTOALL: return it->count * it->size;
-    case ALLGATHERV: return it->total;
-    case EXSCAN: return it->rank ? it->count : 0;
-    default: return it->count;
+        EACH_KIND(ELEMENTS)
+    default: return 0;
     }
 }
 
@@ -349,7 +349,7 @@ static void put_value(const struct request *it, unsigned char *element, const ch
 
 static void put_values(const struct player *player, struct request *it, int place) {
     const struct line *line = player->line;
-    int due = elements_given(it), given = line->count > place ? line->count - place - 1 : 0;
+    int due = elements(it, true), given = line->count > place ? line->count - place - 1 : 0;
     if (given != due)
         stop(player->text->name, line->number, "%d values where %d are due", given, due);
     for (int element = 0; element < due; element++)
@@ -379,7 +379,7 @@ static void finish(const struct player *player, struct request *it) {
     it->active = false;
     add(&it->lines, "rank %d req %d start %d :", player->rank, it->number, it->starts - 1);
     const unsigned char *got = it->kind == BCAST ? it->given : it->got;
-    for (int element = 0; element < elements_got(it); element++)
+    for (int element = 0; element < elements(it, false); element++)
         add_value(&it->lines, it->type, got + (size_t)element * (size_t)it->type->width);
     add(&it->lines, "\n");
 }
@@ -394,24 +394,23 @@ static void make_buffers(struct request *it) {
     memset(it->got, 0x5a, most * width);
 }
 
-#define MOVED it->given, it->count, it->type->type, it->got, it->count, it->type->type
-#define COUNTED it->given, it->count, it->type->type, it->got, it->counts, it->places, it->type->type
-#define COMBINED it->given, it->got, it->count, it->type->type, it->op
+/* What stands in MPI's calls before the communicator. */
+#define NO_BUFFER
+#define BUFFER it->given, it->count, it->type->type,
+#define MOVED it->given, it->count, it->type->type, it->got, it->count, it->type->type,
+#define COUNTED it->given, it->count, it->type->type, it->got, it->counts, it->places, it->type->type,
+#define COMBINED it->given, it->got, it->count, it->type->type, it->op,
+#define ROOT it->root,
+#define NO_ROOT
+
+#define POST(constant, word, Name, name, has_root, has_op, buffers, root, ...)                                                              \
+    case constant: return MPI_I##name(buffers root it->comm, &it->handle);
+#define INITIALISE(constant, word, Name, name, has_root, has_op, buffers, root, ...)                                                        \
+    case constant: return INIT(Name)(buffers root it->comm, info, &it->handle);
 
 static int post(struct request *it) {
     switch (it->kind) {
-    case BARRIER: return MPI_Ibarrier(it->comm, &it->handle);
-    case BCAST: return MPI_Ibcast(it->given, it->count, it->type->type, it->root, it->comm, &it->handle);
-    case GATHER: return MPI_Igather(MOVED, it->root, it->comm, &it->handle);
-    case SCATTER: return MPI_Iscatter(MOVED, it->root, it->comm, &it->handle);
-    case ALLGATHER: return MPI_Iallgather(MOVED, it->comm, &it->handle);
-    case ALLGATHERV: return MPI_Iallgatherv(COUNTED, it->comm, &it->handle);
-    case ALLTOALL: return MPI_Ialltoall(MOVED, it->comm, &it->handle);
-    case REDUCE: return MPI_Ireduce(COMBINED, it->root, it->comm, &it->handle);
-    case ALLREDUCE: return MPI_Iallreduce(COMBINED, it->comm, &it->handle);
-    case REDUCE_SCATTER_BLOCK: return MPI_Ireduce_scatter_block(COMBINED, it->comm, &it->handle);
-    case SCAN: return MPI_Iscan(COMBINED, it->comm, &it->handle);
-    case EXSCAN: return MPI_Iexscan(COMBINED, it->comm, &it->handle);
+        EACH_KIND(POST)
     default: return MPI_ERR_ARG;
     }
 }
@@ -419,18 +418,7 @@ static int post(struct request *it) {
 static int initialise(struct request *it) {
     MPI_Info info = MPI_INFO_NULL;
     switch (it->kind) {
-    case BARRIER: return INIT(Barrier)(it->comm, info, &it->handle);
-    case BCAST: return INIT(Bcast)(it->given, it->count, it->type->type, it->root, it->comm, info, &it->handle);
-    case GATHER: return INIT(Gather)(MOVED, it->root, it->comm, info, &it->handle);
-    case SCATTER: return INIT(Scatter)(MOVED, it->root, it->comm, info, &it->handle);
-    case ALLGATHER: return INIT(Allgather)(MOVED, it->comm, info, &it->handle);
-    case ALLGATHERV: return INIT(Allgatherv)(COUNTED, it->comm, info, &it->handle);
-    case ALLTOALL: return INIT(Alltoall)(MOVED, it->comm, info, &it->handle);
-    case REDUCE: return INIT(Reduce)(COMBINED, it->root, it->comm, info, &it->handle);
-    case ALLREDUCE: return INIT(Allreduce)(COMBINED, it->comm, info, &it->handle);
-    case REDUCE_SCATTER_BLOCK: return INIT(Reduce_scatter_block)(COMBINED, it->comm, info, &it->handle);
-    case SCAN: return INIT(Scan)(COMBINED, it->comm, info, &it->handle);
-    case EXSCAN: return INIT(Exscan)(COMBINED, it->comm, info, &it->handle);
+        EACH_KIND(INITIALISE)
     default: return MPI_ERR_ARG;
     }
 }
@@ -730,10 +718,10 @@ int main(int count, char **names) {
     if (!has_texts && rank == 0)
         fprintf(stderr, "usage: mpirun -n RANKS colljob-mpi [--compare] TEXT ...\n"
                         "Carries out job texts over the MPI library. --compare tells what differs from `colljob plain`, with status 1.\n");
-    MPI_Op_create(take_last_nonzero, 0, &last_nonzero);
+    make_operations();
     for (int place = first; has_texts && place < count; place++)
         play_file(names[place], rank, size, count == first + 1);
-    MPI_Op_free(&last_nonzero);
+    free_operations();
     MPI_Finalize();
     if (!has_texts)
         return 2;

@@ -22,6 +22,10 @@ import sys
 
 TOP = os.path.dirname(os.path.dirname(os.path.dirname(os.path.abspath(__file__))))
 RECORDER = os.path.join(TOP, "recorder")
+sys.path.insert(0, os.path.join(RECORDER, "record"))
+
+import job_words  # noqa: E402
+
 LIBRARIES = {"openmpi": ["--oversubscribe"], "mpich": []}
 SETTINGS = {"OMPI_ALLOW_RUN_AS_ROOT": "1", "OMPI_ALLOW_RUN_AS_ROOT_CONFIRM": "1", "OMPI_MCA_mpi_yield_when_idle": "1"}
 
@@ -125,7 +129,7 @@ def kind_of(path, line):
     words = signature(path, line)
     end = words.index(":") if ":" in words else len(words)
     later = ", a later start" if int(line.split()[5]) > 0 else ""
-    rooted = words[2] in ("bcast", "gather", "scatter", "reduce")
+    rooted = words[2] in job_words.ROOTED
     return " ".join([words[0], words[2], *words[3 + rooted : end - 1]]) + later
 
 

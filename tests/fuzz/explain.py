@@ -10,16 +10,18 @@ long the runs took.
 """
 import collections
 import json
+import os
 import random
 import statistics
 import subprocess
 import sys
 import time
 
-KINDS = ["barrier", "bcast", "gather", "scatter", "allgather", "alltoall", "reduce", "allreduce", "rsblock", "scan", "exscan"]
-ROOTED = {"bcast", "gather", "scatter", "reduce"}
-REDUCING = {"reduce", "allreduce", "rsblock", "scan", "exscan"}
-OF_ROOT = {"bcast": 1, "scatter": 0}
+sys.path.insert(0, os.path.join(os.path.dirname(os.path.realpath(__file__)), "..", "..", "recorder", "record"))
+
+import job_words  # noqa: E402
+
+KINDS = [kind for kind in job_words.GIVEN if kind != "allgatherv"]
 RUNS = 3
 SECONDS = 60
 MOST_LINES = 100
@@ -36,9 +38,9 @@ class Collective:
         self.starts = rng.choice([0, 0, 0, 1, 2])
         self.turn = turn
         words = [self.kind]
-        if self.kind in ROOTED:
+        if self.kind in job_words.ROOTED:
             words.append(str(self.root))
-        if self.kind in REDUCING:
+        if self.kind in job_words.COMBINING:
             words.append("sum")
         if self.kind != "barrier":
             words += ["i32", "1"]
@@ -46,9 +48,8 @@ class Collective:
 
     def values(self, rank):
         """What a rank gives, after a colon."""
-        member = self.group.index(rank)
-        count = len(self.group) if self.kind in ("alltoall", "rsblock", "scatter") else 1
-        if self.kind == "barrier" or self.kind in OF_ROOT and member != self.root:
+        count = job_words.blocks_given(self.kind, self.group.index(rank) == self.root, len(self.group))
+        if count == 0:
             return ""
         return " : " + " ".join(str(rank * 10 + it) for it in range(count))
 

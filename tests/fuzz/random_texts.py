@@ -46,12 +46,8 @@ class Collective:
 
     def given(self, draw, rank):
         """The words of what a rank gives."""
-        member, size = self.members.index(rank), len(self.members)
-        count = {"barrier": 0, "bcast": self.count * (member == self.root), "scatter": self.count * size * (member == self.root)}.get(self.kind, self.count)
-        if self.kind in ("alltoall", "rsblock"):
-            count *= size
-        if self.counts:
-            count = self.counts[member]
+        member = self.members.index(rank)
+        count = (self.counts[member] if self.counts else self.count) * job_words.blocks_given(self.kind, member == self.root, len(self.members))
         return [":", *(str(self.value(draw)) for _ in range(count))] if count else []
 
     def value(self, draw):

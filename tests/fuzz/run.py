@@ -49,14 +49,9 @@ class Collective:
 
     def given(self, dice, rank):
         """What the rank gives at a start."""
-        rule = job_words.GIVEN[self.kind]
-        n = 0 if rule == "none" else self.count
-        if rule == "counted":
-            n = self.counts[self.members.index(rank)]
-        if rule.endswith("all"):
-            n *= len(self.members)
-        if rule.startswith("root") and self.members[self.root] != rank:
-            n = 0
+        member, members = self.members.index(rank), len(self.members)
+        count = self.counts[member] if job_words.GIVEN[self.kind] == "counted" else self.count
+        n = count * job_words.blocks_given(self.kind, member == self.root, members)
         return "".join(f" {dice.randint(0, 9)}" + (f",{rank}" if self.type == "2int" else "") for _ in range(n))
 
 
