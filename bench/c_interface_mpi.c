@@ -1,17 +1,9 @@
 /* The samples of `c_interface RANKS 0 waits` for an MPI library, whose ranks are processes; see c_interface.py. */
-#include <mpi.h>
 #include <stdint.h>
 #include <stdio.h>
 #include <stdlib.h>
 
-#ifdef OPEN_MPI
-#include <mpi-ext.h>
-#endif
-#if MPI_VERSION >= 4
-#define ALLREDUCE_INIT MPI_Allreduce_init
-#elif defined(OMPI_HAVE_MPI_EXT_PCOLLREQ)
-#define ALLREDUCE_INIT MPIX_Allreduce_init
-#endif
+#include "../recorder/run/persistent.h"
 
 enum { MOST_SAMPLES = 20000, OF = 20 };
 
@@ -41,7 +33,7 @@ static void allreduces(void) {
     }
 }
 
-#ifdef ALLREDUCE_INIT
+#ifdef INIT
 static void starts(void) {
     for (int turn = 0; turn < OF; turn++) {
         MPI_Start(&persistent);
@@ -73,8 +65,8 @@ int main(int words, char **word) {
     if (words > 1) seconds = atof(word[1]);
     measure("barrier", barriers);
     measure("allreduce of one i32", allreduces);
-#ifdef ALLREDUCE_INIT
-    ALLREDUCE_INIT(&given, &taken, 1, MPI_INT32_T, MPI_SUM, MPI_COMM_WORLD, MPI_INFO_NULL, &persistent);
+#ifdef INIT
+    INIT(Allreduce)(&given, &taken, 1, MPI_INT32_T, MPI_SUM, MPI_COMM_WORLD, MPI_INFO_NULL, &persistent);
     measure("persistent allreduce of one i32", starts);
     MPI_Request_free(&persistent);
 #endif

@@ -3,6 +3,8 @@
 #include <stdio.h>
 #include <time.h>
 
+#include "../recorder/record/job_words.h"
+
 #ifndef BYTES
 #define BYTES 65536
 #endif
@@ -16,64 +18,29 @@ static uint8_t out[BYTES] __attribute__((aligned(16)));
 
 typedef void (*loop)(const void *, const void *, void *);
 
-#define LOOP(op, name, type, value)                                                                                   \
-    __attribute__((noinline)) static void op##_##name(const void *l, const void *r, void *o) {                        \
-        const type *a_row = l, *b_row = r;                                                                            \
-        type *out_row = o;                                                                                            \
-        for (size_t i = 0; i < BYTES / sizeof(type); i++) {                                                           \
-            type a = a_row[i], b = b_row[i];                                                                          \
-            out_row[i] = (type)(value);                                                                               \
+PAIR;
+
+/* A loop for each operation on each type. */
+#define LOOP(word, constant, mpi, ctype, op, statement)                                                               \
+    __attribute__((noinline)) static void op##_of_##word(const void *l, const void *r, void *o) {                     \
+        const ctype *a_row = l, *b_row = r;                                                                           \
+        ctype *out_row = o;                                                                                           \
+        for (size_t i = 0; i < BYTES / sizeof(ctype); i++) {                                                          \
+            ctype a = a_row[i], b = b_row[i];                                                                         \
+            statement;                                                                                                \
+            out_row[i] = a;                                                                                           \
         }                                                                                                             \
     }
+#define LOOPS(op, constant, types, statement) types(LOOP, op, statement)
+EACH_OPERATION(LOOPS)
 
-#define TYPE(name, type)                                                                                              \
-    LOOP(max, name, type, a < b ? b : a)                                                                              \
-    LOOP(min, name, type, b < a ? b : a)                                                                              \
-    LOOP(sum, name, type, (uint64_t)a + (uint64_t)b)                                                                  \
-    LOOP(prod, name, type, (uint64_t)a * (uint64_t)b)                                                                 \
-    LOOP(land, name, type, a && b)                                                                                    \
-    LOOP(lor, name, type, a || b)                                                                                     \
-    LOOP(lxor, name, type, !a != !b)                                                                                  \
-    LOOP(band, name, type, a & b)                                                                                     \
-    LOOP(bor, name, type, a | b)                                                                                      \
-    LOOP(bxor, name, type, a ^ b)                                                                                     \
-    LOOP(lastnz, name, type, b ? b : a)
-
-TYPE(i8, int8_t)
-TYPE(i16, int16_t)
-TYPE(i32, int32_t)
-TYPE(i64, int64_t)
-TYPE(u8, uint8_t)
-TYPE(u16, uint16_t)
-TYPE(u32, uint32_t)
-TYPE(u64, uint64_t)
-
-/* MPI_2INT: a value and its index. */
-struct pair {
-    int32_t value, index;
-};
-
-#define LOCATE(op, before)                                                                                            \
-    __attribute__((noinline)) static void op##_pair(const void *l, const void *r, void *o) {                          \
-        const struct pair *a_row = l, *b_row = r;                                                                     \
-        struct pair *out_row = o;                                                                                     \
-        for (size_t i = 0; i < BYTES / sizeof(struct pair); i++) {                                                    \
-            struct pair a = a_row[i], b = b_row[i];                                                                   \
-            out_row[i] = b.value before a.value || (b.value == a.value && b.index < a.index) ? b : a;                 \
-        }                                                                                                             \
-    }
-
-LOCATE(maxloc, >)
-LOCATE(minloc, <)
-
-#define ROW(op) {#op, {op##_i8, op##_i16, op##_i32, op##_i64, op##_u8, op##_u16, op##_u32, op##_u64}}
+#define ROW(word, constant, mpi, ctype, op, statement) { #op, #word, op##_of_##word },
+#define ROWS(op, constant, types, statement) types(ROW, op, statement)
 
 static const struct {
-    const char *op;
-    loop loops[8];
-} TABLE[] = {ROW(max), ROW(min), ROW(sum), ROW(prod), ROW(land), ROW(lor), ROW(lxor), ROW(band), ROW(bor), ROW(bxor), ROW(lastnz)};
-
-static const char *TYPES[] = {"i8", "i16", "i32", "i64", "u8", "u16", "u32", "u64"};
+    const char *op, *type;
+    loop run;
+} TABLE[] = { EACH_OPERATION(ROWS) };
 
 static void fill(uint8_t *row, uint64_t x) {
     for (int block = 0; block < BYTES / 8; block++) {
@@ -112,9 +79,5 @@ static void report(const char *op, const char *type, loop run) {
 }
 
 int main(void) {
-    for (size_t op = 0; op < sizeof TABLE / sizeof *TABLE; op++)
-        for (int type = 0; type < 8; type++)
-            report(TABLE[op].op, TYPES[type], TABLE[op].loops[type]);
-    report("maxloc", "2int", maxloc_pair);
-    report("minloc", "2int", minloc_pair);
+    for (size_t i = 0; i < sizeof TABLE / sizeof *TABLE; i++) report(TABLE[i].op, TABLE[i].type, TABLE[i].run);
 }

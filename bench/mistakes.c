@@ -1,18 +1,10 @@
 /* Mistakes of MPI programs, one for each number on the command line, for an MPI library to meet; see mistakes.py. Each rank prints
    what it got. */
-#include <mpi.h>
 #include <stdint.h>
 #include <stdio.h>
 #include <stdlib.h>
-#ifdef OPEN_MPI
-#include <mpi-ext.h>
-#endif
 
-#if MPI_VERSION >= 4
-#define ALLREDUCE_INIT MPI_Allreduce_init
-#elif defined(OMPI_HAVE_MPI_EXT_PCOLLREQ)
-#define ALLREDUCE_INIT MPIX_Allreduce_init
-#endif
+#include "../recorder/run/persistent.h"
 
 static int rank, size;
 static int32_t given[2], got[8];
@@ -73,7 +65,7 @@ static void waits_cross(void) {
 
 /* A persistent request is started again before it was completed. */
 static void started_twice(void) {
-    ALLREDUCE_INIT(given, got, 1, MPI_INT32_T, MPI_SUM, MPI_COMM_WORLD, MPI_INFO_NULL, &request);
+    INIT(Allreduce)(given, got, 1, MPI_INT32_T, MPI_SUM, MPI_COMM_WORLD, MPI_INFO_NULL, &request);
     MPI_Start(&request);
     MPI_Start(&request);
     finish(&request);

@@ -2,57 +2,16 @@
  * ways. Kept: each collective has fresh buffers, a giver writes its row, and nothing is freed, as in a program that computes new rows and
  * keeps its results. Used again: all have the same buffers, which were written once, as in a program that is done with a result before the
  * next collective. With the word `long` only these are measured. */
-#include <mpi.h>
 #include <stdbool.h>
-#include <stdint.h>
 #include <stdio.h>
 #include <stdlib.h>
 #include <string.h>
-#ifdef OPEN_MPI
-#include <mpi-ext.h>
-#endif
 
-#if MPI_VERSION >= 4
-#define ALLREDUCE_INIT MPI_Allreduce_init
-#elif defined(OMPI_HAVE_MPI_EXT_PCOLLREQ)
-#define ALLREDUCE_INIT MPIX_Allreduce_init
-#endif
+#include "small_collectives.h"
 
-enum { OUTSTANDING = 1000, MOST = 60, SHORT = 65536, LONG = 524288 };
+enum { MOST = 60, SHORT = 65536, LONG = 524288 };
 
 static int rank, ranks;
-static int32_t given[OUTSTANDING], taken[OUTSTANDING];
-static MPI_Request requests[OUTSTANDING];
-
-static void barrier(int turns) {
-    for (int turn = 0; turn < turns; turn++) {
-        MPI_Ibarrier(MPI_COMM_WORLD, requests);
-        MPI_Wait(requests, MPI_STATUS_IGNORE);
-    }
-}
-
-static void small_allreduce(int turns) {
-    for (int turn = 0; turn < turns; turn++) {
-        MPI_Iallreduce(given, taken, 1, MPI_INT32_T, MPI_SUM, MPI_COMM_WORLD, requests);
-        MPI_Wait(requests, MPI_STATUS_IGNORE);
-    }
-}
-
-static MPI_Request persistent;
-
-static void starts(int turns) {
-    for (int turn = 0; turn < turns; turn++) {
-        MPI_Start(&persistent);
-        MPI_Wait(&persistent, MPI_STATUS_IGNORE);
-    }
-}
-
-static void outstanding(int turns) {
-    for (int turn = 0; turn < turns; turn++)
-        MPI_Iallreduce(given + turn, taken + turn, 1, MPI_INT32_T, MPI_SUM, MPI_COMM_WORLD, requests + turn);
-    for (int turn = 0; turn < turns; turn++)
-        MPI_Wait(requests + turn, MPI_STATUS_IGNORE);
-}
 
 /* Whether each collective has buffers of its own; else all have the same. */
 static bool keeps;
@@ -137,8 +96,8 @@ static void measure(const char *name, void (*play)(int), int samples, int turns)
 static void measure_short(void) {
     measure("barrier", barrier, 60, 200);
     measure("allreduce of one i32", small_allreduce, 60, 200);
-#ifdef ALLREDUCE_INIT
-    ALLREDUCE_INIT(given, taken, 1, MPI_INT32_T, MPI_SUM, MPI_COMM_WORLD, MPI_INFO_NULL, &persistent);
+#ifdef INIT
+    make_persistent();
     measure("persistent allreduce of one i32", starts, 60, 200);
     MPI_Request_free(&persistent);
 #endif

@@ -1,24 +1,13 @@
 /* The measures of mpi_programs.py: an MPI program as it is, for wzcc and for the compilers of MPI libraries. Rank 0 prints a line for each measure: its name
    and the median of its samples, in nanoseconds an operation. Its argument is how many seconds a measure takes. */
-#include <mpi.h>
-#include <stdint.h>
 #include <stdio.h>
 #include <stdlib.h>
-#ifdef OPEN_MPI
-#include <mpi-ext.h>
-#endif
 
-#if MPI_VERSION >= 4
-#define ALLREDUCE_INIT MPI_Allreduce_init
-#elif defined(OMPI_HAVE_MPI_EXT_PCOLLREQ)
-#define ALLREDUCE_INIT MPIX_Allreduce_init
-#endif
+#include "small_collectives.h"
 
-enum { MOST_SAMPLES = 20000, OUTSTANDING = 1000, LONG = 524288, SHORT = 65536 };
+enum { MOST_SAMPLES = 20000, LONG = 524288, SHORT = 65536 };
 
 static unsigned char block[LONG], sums[LONG];
-static int32_t given[OUTSTANDING], taken[OUTSTANDING];
-static MPI_Request requests[OUTSTANDING];
 static double samples[MOST_SAMPLES], seconds = 0.3;
 static int rank, ranks;
 
@@ -28,34 +17,6 @@ static void blocking_barrier(int turns) {
 
 static void blocking_allreduce(int turns) {
     for (int turn = 0; turn < turns; turn++) MPI_Allreduce(given, taken, 1, MPI_INT32_T, MPI_SUM, MPI_COMM_WORLD);
-}
-
-static void barrier(int turns) {
-    for (int turn = 0; turn < turns; turn++) {
-        MPI_Ibarrier(MPI_COMM_WORLD, requests);
-        MPI_Wait(requests, MPI_STATUS_IGNORE);
-    }
-}
-
-static void allreduce(int turns) {
-    for (int turn = 0; turn < turns; turn++) {
-        MPI_Iallreduce(given, taken, 1, MPI_INT32_T, MPI_SUM, MPI_COMM_WORLD, requests);
-        MPI_Wait(requests, MPI_STATUS_IGNORE);
-    }
-}
-
-static MPI_Request persistent;
-
-static void starts(int turns) {
-    for (int turn = 0; turn < turns; turn++) {
-        MPI_Start(&persistent);
-        MPI_Wait(&persistent, MPI_STATUS_IGNORE);
-    }
-}
-
-static void outstanding(int turns) {
-    for (int turn = 0; turn < turns; turn++) MPI_Iallreduce(given + turn, taken + turn, 1, MPI_INT32_T, MPI_SUM, MPI_COMM_WORLD, requests + turn);
-    for (int turn = 0; turn < turns; turn++) MPI_Wait(requests + turn, MPI_STATUS_IGNORE);
 }
 
 static void bcast(int turns, int bytes) {
@@ -100,8 +61,8 @@ static void measure(const char *name, void (*play)(int), int turns) {
 }
 
 static void measure_starts(void) {
-#ifdef ALLREDUCE_INIT
-    ALLREDUCE_INIT(given, taken, 1, MPI_INT32_T, MPI_SUM, MPI_COMM_WORLD, MPI_INFO_NULL, &persistent);
+#ifdef INIT
+    make_persistent();
     measure("persistent allreduce of one `i32`", starts, 20);
     MPI_Request_free(&persistent);
 #endif
@@ -115,7 +76,7 @@ int main(int words, char **word) {
     measure("MPI_Barrier", blocking_barrier, 20);
     measure("MPI_Allreduce of one `i32`", blocking_allreduce, 20);
     measure("barrier", barrier, 20);
-    measure("allreduce of one `i32`", allreduce, 20);
+    measure("allreduce of one `i32`", small_allreduce, 20);
     measure_starts();
     measure("outstanding allreduces of one `i32`", outstanding, ranks > 4 ? OUTSTANDING / 2 : OUTSTANDING);
     measure("bcast of 64 KiB", short_bcast, 5);
