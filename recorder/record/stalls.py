@@ -184,20 +184,13 @@ class Stalls:
             return
         while it.step < last:
             word, lane, waits, kind = steps[codes[it.step]]
-            if word == "call":
+            if word == "call" or word == "message":
                 if not it.has_arrived and lane.arrive(rank):
                     self.wake(lane)
-                if waits and lane.level <= extra[it.step]:
+                awaited = lane if word == "call" else waits
+                if waits and awaited.level <= extra[it.step]:
                     it.has_arrived = True
-                    lane.sleepers.add(rank)
-                    return
-                it.has_arrived = False
-            elif word == "message":
-                if not it.has_arrived and lane.arrive(rank):
-                    self.wake(lane)
-                if waits and waits.level <= extra[it.step]:
-                    it.has_arrived = True
-                    waits.sleepers.add(rank)
+                    awaited.sleepers.add(rank)
                     return
                 it.has_arrived = False
             elif word and not self.take(rank, it, word, kind):
