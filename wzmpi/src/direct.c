@@ -41,27 +41,12 @@ const void *given_bytes(struct request *request, void **packed, size_t *length) 
     return *packed;
 }
 
-/* How many blocks the engine's collective gives to this member. */
-static size_t blocks_got(const struct request *request) {
-    size_t size = (size_t)request->comm->size, if_root = request->call.root == request->member ? 1 : 0;
-    switch (request->call.kind) {
-    case WZ_BARRIER: return 0;
-    case WZ_GATHER: return if_root * size;
-    case WZ_REDUCE: return if_root;
-    case WZ_EXSCAN: return request->member > 0 ? 1 : 0;
-    case WZ_ALLGATHER:
-    case WZ_ALLTOALL: return size;
-    default: return 1;
-    }
-}
-
 size_t outcome_bytes(const struct request *request) {
-    size_t elements = blocks_got(request) * request->call.count;
-    if (request->call.kind == WZ_ALLGATHERV) {
-        elements = 0;
+    const wz_call *call = &request->call;
+    size_t elements = wz_blocks_got(call->kind, (uint32_t)request->member, call->root, (size_t)request->comm->size) * call->count;
+    if (call->kind == WZ_ALLGATHERV)
         for (int i = 0; i < request->comm->size; i++) elements += request->counts[i];
-    }
-    return elements * engine_width(request->call.type);
+    return elements * engine_width(call->type);
 }
 
 void *outcome_place(struct request *request) {

@@ -85,16 +85,8 @@ static uint64_t count_of_member(const struct place *place, int member) {
 
 static uint64_t elements_due(const struct place *place, int member) {
     const wz_call *call = &place->first.call;
-    uint64_t size = (uint64_t)place->comm->size;
-    switch (call->kind) {
-    case WZ_BARRIER: return 0;
-    case WZ_BCAST: return member == call->root ? call->count : 0;
-    case WZ_SCATTER: return member == call->root ? size * call->count : 0;
-    case WZ_ALLTOALL:
-    case WZ_REDUCE_SCATTER_BLOCK: return size * call->count;
-    case WZ_ALLGATHERV: return count_of_member(place, member);
-    default: return call->count;
-    }
+    if (call->kind == WZ_ALLGATHERV) return count_of_member(place, member);
+    return wz_blocks_given(call->kind, (uint32_t)member, call->root, (size_t)place->comm->size) * call->count;
 }
 
 static void write_zeros(FILE *to, const struct place *place, int member) {

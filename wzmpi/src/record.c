@@ -2,6 +2,8 @@
    1 MiB; where a run has more, it says so. */
 #include "recording.h"
 
+#include "../../recorder/record/job_words.h"
+
 /* The communicators that the text names, beside MPI_COMM_WORLD. */
 static struct text_comm comms[MOST_COMMS + 1];
 static int many_comms = 1;
@@ -84,21 +86,15 @@ int record_add_comm(const int *ranks, int size, const char *name) {
 
 /* ---- values */
 
-static long long signed_at(const char *at, int type) {
-    switch (type) {
-    case WZ_INT8: return *(const int8_t *)at;
-    case WZ_INT16: return *(const int16_t *)at;
-    case WZ_INT32: return *(const int32_t *)at;
-    default: return *(const int64_t *)at;
-    }
-}
+#define WRITE_SIGNED(word, constant, mpi, ctype, ...) case WZ_##constant: fprintf(to, " %lld", (long long)*(const ctype *)at); return;
+#define WRITE_UNSIGNED(word, constant, mpi, ctype, ...) case WZ_##constant: fprintf(to, " %llu", (unsigned long long)*(const ctype *)at); return;
 
-static unsigned long long unsigned_at(const char *at, int type) {
+static void write_element(FILE *to, int type, const void *at) {
     switch (type) {
-    case WZ_UINT16: return *(const uint16_t *)at;
-    case WZ_UINT32: return *(const uint32_t *)at;
-    case WZ_UINT64: return *(const uint64_t *)at;
-    default: return *(const uint8_t *)at;
+        EACH_SIGNED(WRITE_SIGNED, )
+        EACH_UNSIGNED(WRITE_UNSIGNED, )
+    case WZ_2INT: fprintf(to, " %d,%d", ((const int32_t *)at)[0], ((const int32_t *)at)[1]); return;
+    default: fprintf(to, " %u", *(const uint8_t *)at);
     }
 }
 
@@ -109,9 +105,7 @@ void write_values(FILE *to, int type, const void *bytes, size_t length) {
     for (size_t i = 0; i + width <= length; i += width) {
         _Alignas(8) char element[8];
         memcpy(element, (const char *)bytes + i, width);
-        if (type <= WZ_INT64) fprintf(to, " %lld", signed_at(element, type));
-        else if (type != WZ_2INT) fprintf(to, " %llu", unsigned_at(element, type));
-        else fprintf(to, " %d,%d", *(int32_t *)element, *(int32_t *)(element + 4));
+        write_element(to, type, element);
     }
 }
 
@@ -119,10 +113,9 @@ void write_values(FILE *to, int type, const void *bytes, size_t length) {
 
 /* A reduction that is carried stands as its own kind over no elements. */
 void write_signature(FILE *to, const struct request *request) {
-    static const bool rooted[] = { [WZ_BCAST] = true, [WZ_GATHER] = true, [WZ_SCATTER] = true, [WZ_REDUCE] = true, [WZ_ALLGATHERV] = false };
     const wz_call *call = &request->call;
     fputs(wz_kind_word(call->kind), to);
-    if (rooted[call->kind]) fprintf(to, " %d", call->root);
+    if (wz_has_root(call->kind)) fprintf(to, " %d", call->root);
     if (call->op != WZ_NO_OPERATION) fprintf(to, " %s", wz_operation_word(call->op));
     if (call->kind == WZ_BARRIER) return;
     fprintf(to, " %s", wz_type_word(request->text_type));
