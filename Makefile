@@ -42,6 +42,7 @@ $(PARTS:%=check-%): check-%:
 
 theorem:
 	tools/reading_list --pages docs/theorem
+	tools/reading_list --counts
 
 # A recorder for each MPI library whose compiler is here.
 recorder:
