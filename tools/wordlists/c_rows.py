@@ -62,8 +62,12 @@ def kind_example(table, kind):
     element = named(table["type"], EXAMPLE_TYPE)
     given, got = example_of_kind(kind)
     operation = f"WZ_{named(table['operation'], EXAMPLE_OPERATION).c}" if has(kind, "operation") else "WZ_NO_OPERATION"
-    sides = [f"{{ {', '.join(str(len(words)) for words in side)} }}, {{ {', '.join(bytes_in_c(element, words) for words in side)} }}" for side in (given, got)]
-    return f"    {{ {{ WZ_{kind.c}, {operation}, WZ_{element.c}, {EXAMPLE_ROOT if has(kind, 'root') else 0}, {int(kind.gives not in ('none', 'counted'))} }}, {', '.join(sides)} }},"
+    root, count = EXAMPLE_ROOT if has(kind, "root") else 0, int(kind.gives not in ("none", "counted"))
+    sides = []
+    for side in (given, got):
+        sides.append(f"{{ {', '.join(str(len(words)) for words in side)} }}")
+        sides.append(f"{{ {', '.join(bytes_in_c(element, words) for words in side)} }}")
+    return f"    {{ {{ WZ_{kind.c}, {operation}, WZ_{element.c}, {root}, {count} }}, {', '.join(sides)} }},"
 
 
 def operation_example(table, operation):
@@ -83,8 +87,10 @@ def examples(table):
 
 def call_of(kind, name):
     """The call of a kind in MPI's order, of the members of an example."""
-    words = {"NO_BUFFER": [], "BUFFER": ["receive", "call->count", "call->type"], "MOVED": ["send", "receive", "call->count", "call->type"],
-             "COMBINED": ["send", "receive", "call->count", "call->type", "call->op"], "COUNTED": ["send", "receive", "it->gives", "call->type"]}
+    words = {"NO_BUFFER": [], "BUFFER": ["receive", "call->count", "call->type"],
+             "MOVED": ["send", "receive", "call->count", "call->type"],
+             "COMBINED": ["send", "receive", "call->count", "call->type", "call->op"],
+             "COUNTED": ["send", "receive", "it->gives", "call->type"]}
     root = ["call->root"] if has(kind, "root") else []
     return f"{name}({', '.join(['shared', 'rank', '0', *words[buffers_of(kind)], *root, 'request'])})"
 

@@ -42,7 +42,8 @@ def examples(table):
 
 def file_lines(table):
     pairs, rows = combinations(table), list(examples(table))
-    lines = ["//! What operations and types go together, and what small collectives give; `tools/words` makes this file.", "", "use coll_kinds::{Datatype, Kind, Op};", "",
+    lines = ["//! What operations and types go together, and what small collectives give; `tools/words` makes this file.", "",
+             "use coll_kinds::{Datatype, Kind, Op};", "",
              "/// Each operation with each type that it is for.", f"pub const COMBINATIONS: [(Op, Datatype); {len(pairs)}] = ["]
     lines += [line for operation, kind in pairs for line in row_lines([[f"Op::{operation.rust}"], [f"Datatype::{kind.rust}"]])]
     lines += ["];", "", "/// A kind with its root, operation and type.", "pub type What = (Kind, u8, Option<Op>, Datatype);", "",

@@ -1,5 +1,6 @@
 """What the Rust crate has of the table."""
-from .table import EXAMPLE_OPERATION, EXAMPLE_ROOT, EXAMPLE_TYPE, WHOLE, bytes_of, example_of_kind, example_of_operation, filled, has, named, noted
+from .table import (EXAMPLE_OPERATION, EXAMPLE_ROOT, EXAMPLE_TYPE, WHOLE, bytes_of, example_of_kind, example_of_operation, filled, has,
+                    named, noted)
 
 
 def enum_lines(name, about, rows, first, numbers):
