@@ -27,7 +27,8 @@ def limits(row):
 
 def file_lines(table):
     kinds, operations, types = table["kind"], table["operation"], table["type"]
-    lines = ['"""Kinds, operations and types in job texts; `tools/words` makes this file."""', "", "# By MPI's call, without MPI_ and the I of nonblocking ones."]
+    lines = ['"""Kinds, operations and types in job texts; `tools/words` makes this file."""', "",
+             "# By MPI's call, without MPI_ and the I of nonblocking ones."]
     lines += dict_lines("KINDS", [(row.mpi, f'"{row.word}"') for row in kinds])
     lines += ["# What a member gives, in blocks: none, its own, all members' blocks, or so many elements as its count says; `root`: the root alone."]
     lines += dict_lines("GIVEN", [(row.word, f'"{row.gives}"') for row in kinds])
