@@ -148,12 +148,11 @@ static void watch_ranks(int size) {
 static int run_ranks(int argc, char **argv, const struct options *options) {
     int size = options->ranks, status = 0;
     const char *program = find_program(argv[options->program]);
-    pthread_t thread;
+    pthread_t threads[MOST_RANKS];
     static struct start starts[MOST_RANKS]; /* the ranks' words stay as long as the run */
     pthread_attr_t attributes;
     pthread_attr_init(&attributes);
     pthread_attr_setstacksize(&attributes, stack_bytes());
-    pthread_attr_setdetachstate(&attributes, PTHREAD_CREATE_DETACHED); /* `ended` tells of its end */
     begin_run(size);
     the_run.one_folder = unshare(CLONE_FS) != 0; /* some containers forbid it; else each rank has its own working directory and umask */
     the_run.folder = open(".", O_PATH | O_DIRECTORY | O_CLOEXEC);
@@ -169,8 +168,9 @@ static int run_ranks(int argc, char **argv, const struct options *options) {
         load(&starts[i], program);
     }
     for (int i = 0; i < size; i++)
-        if (pthread_create(&thread, &attributes, play, &starts[i]) != 0) give_up("a thread for each rank", strerror(errno));
+        if (pthread_create(&threads[i], &attributes, play, &starts[i]) != 0) give_up("a thread for each rank", strerror(errno));
     watch_ranks(size);
+    for (int i = 0; i < size; i++) pthread_join(threads[i], NULL); /* destructors of thread_local objects, which may speak or crash, come after `ended` */
     for (int i = 0; i < size && status == 0; i++) status = the_run.ranks[i].status;
     if (status == 0) warn_of_mail();
     flush_streams();

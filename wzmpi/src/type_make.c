@@ -290,6 +290,10 @@ int MPI_Type_set_name(MPI_Datatype of, const char *name) {
 
 int MPI_Type_get_name(MPI_Datatype of, char *name, int *length) {
     int code;
+    if (of == MPI_LB || of == MPI_UB) { /* no types, but with names of their own */
+        *length = snprintf(name, MPI_MAX_OBJECT_NAME, of == MPI_LB ? "MPI_LB" : "MPI_UB");
+        return MPI_SUCCESS;
+    }
     struct type *type = known(of, "MPI_Type_get_name", &code);
     if (type != NULL) *length = snprintf(name, MPI_MAX_OBJECT_NAME, "%s", type->name != NULL ? type->name : "");
     return code;

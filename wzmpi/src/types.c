@@ -38,7 +38,7 @@ static const struct basic basics[] = {
     { "MPI_FLOAT", 4, 4, REAL, WZ_UINT32, 14 },
     { "MPI_DOUBLE", 8, 8, REAL, WZ_UINT64, 15 },
     { "MPI_LONG_DOUBLE", sizeof(long double), _Alignof(long double), REAL, -1, 16 },
-    { "MPI_C_FLOAT_COMPLEX", 8, 4, COMPLEX, WZ_UINT64, 17 },
+    { "MPI_C_COMPLEX", 8, 4, COMPLEX, WZ_UINT64, 17 },
     { "MPI_C_DOUBLE_COMPLEX", 16, 8, COMPLEX, -1, 18 },
     { "MPI_C_LONG_DOUBLE_COMPLEX", sizeof(long double complex), _Alignof(long double), COMPLEX, -1, 19 },
     { "MPI_2INT", 8, 4, PAIR, WZ_2INT, 20 },

@@ -57,7 +57,8 @@ def check_streams(binaries, out):
     failed = 0
     for words in ([], ["race"]):
         status, said = run([str(binaries / "wzrun"), "-n", "3", str(program), *words], input="word\n")
-        right = "rank 0 reads word\n" in said and "rank 1: 255 3.14159\n" in said and "...1\n" in said and said.count("\n") == 15003
+        wanted = ["rank 0 reads word\n", "rank 1: 255 3.14159\n", "...1\n", *(f"rank {it} ends\n" for it in range(3))]
+        right = all(it in said for it in wanted) and said.count("\n") == 15006
         failed += reported(status == 0 and right and is_whole(said, 3, 5000, r"^rank (\d) line (\d+)$"), f"processes_streams {words}: status {status}:\n{said[:2000]}")
     return failed
 

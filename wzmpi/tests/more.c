@@ -58,6 +58,20 @@ static void darray(void) {
     for (int i = 0; i < 30; i++) HOLDS(owner[i] == 2 * (i / 6 / 3) + i % 6 / 2 % 2);
 }
 
+/* MPI_C_COMPLEX is what MPI 4.1, table 3.2, has the other name for; what MPI 3.0 removed still has its own. */
+static void names(void) {
+    const struct {
+        MPI_Datatype of;
+        const char *name;
+    } named[] = { { MPI_C_COMPLEX, "MPI_C_COMPLEX" }, { MPI_C_FLOAT_COMPLEX, "MPI_C_COMPLEX" }, { MPI_LB, "MPI_LB" }, { MPI_UB, "MPI_UB" }, { MPI_INT, "MPI_INT" } };
+    for (size_t i = 0; i < sizeof named / sizeof named[0]; i++) {
+        char name[MPI_MAX_OBJECT_NAME];
+        int length;
+        MPI_Type_get_name(named[i].of, name, &length);
+        HOLDS(strcmp(name, named[i].name) == 0 && length == (int)strlen(name));
+    }
+}
+
 static int copies, deletes;
 static int copy_more(MPI_Datatype of, int key, void *extra, void *value, void *copied, int *flag) {
     (void)of, (void)key;
@@ -337,7 +351,7 @@ static void tool_information(void) {
 static const struct {
     const char *name;
     void (*run)(void);
-} cases[] = { CASE(contents), CASE(darray), CASE(attributes), CASE(external), CASE(generalized), CASE(removed), CASE(fortran), CASE(session_alone), CASE(session_longer),
+} cases[] = { CASE(contents), CASE(darray), CASE(names), CASE(attributes), CASE(external), CASE(generalized), CASE(removed), CASE(fortran), CASE(session_alone), CASE(session_longer),
               CASE(session_errors), CASE(group_comms), CASE(further), CASE(tool_information) };
 
 int main(int argc, char **argv) {
