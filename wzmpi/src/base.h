@@ -26,7 +26,7 @@ struct table {
     uint32_t *generations;
     struct maker {
         const char *call, *site;
-    } *makers; /* the calls that made them */
+    } *makers; /* the calls that made them; none of the library's own */
     uint32_t many, room, lowest_free;
 };
 
@@ -126,6 +126,7 @@ void end_model(struct rank *rank);
 
 /* ---- handles (handles.c) */
 uintptr_t add_handle(enum kind kind, void *object);                 /* of this thread's rank */
+uintptr_t add_own_handle(enum kind kind, void *object);             /* of an object that the library itself frees */
 void *find_handle(enum kind kind, const void *handle);              /* NULL: there is no such object */
 uintptr_t handle_of(enum kind kind, const void *object);      /* the null handle where it has none */
 bool was_freed(enum kind kind, const void *handle);

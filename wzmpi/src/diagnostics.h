@@ -25,6 +25,7 @@ void print_warning(const char *format, ...) __attribute__((format(printf, 1, 2))
 const char *class_name(int class);
 
 int judge_info(MPI_Info info, const char *call); /* info.c: MPI_INFO_NULL is one too */
+MPI_Info new_hints(void); /* info.c: those that a window or a file has, of which the program doesn't know */
 
 /* `wzrun` and `wzrun: warning`, as they begin a sentence (colour.c). */
 const char *fault_head(void);

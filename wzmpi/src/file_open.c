@@ -183,7 +183,7 @@ static int open_together(struct comm *comm, uint64_t place, const char *name, in
     struct file_member *mine = my_file(file);
     mine->view = (struct view){ 0, find_type(MPI_BYTE), find_type(MPI_BYTE), { MPI_BYTE, MPI_BYTE }, { MPI_BYTE, MPI_BYTE }, false };
     mine->position = file->shared; /* 0, or where the file ends */
-    MPI_Info_create(&mine->info);
+    mine->info = new_hints();
     *made = (MPI_File)add_handle(FILE_, file);
     return MPI_SUCCESS;
 }

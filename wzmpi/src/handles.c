@@ -41,6 +41,12 @@ uintptr_t add_handle(enum kind kind, void *object) {
     return (uintptr_t)kind << 56 | (uintptr_t)table->generations[at] << TABLE_NUMBER_BITS | (at + FIRST_MADE);
 }
 
+uintptr_t add_own_handle(enum kind kind, void *object) {
+    uintptr_t handle = add_handle(kind, object);
+    current_rank->tables[kind].makers[number_in((void *)handle) - FIRST_MADE] = (struct maker){ NULL, NULL };
+    return handle;
+}
+
 /* Whether a handle is of this kind and names something that a table has or had. */
 static bool names(enum kind kind, const void *handle) {
     uint32_t number = number_in(handle);

@@ -52,6 +52,8 @@ int MPI_Info_create(MPI_Info *made) {
     return MPI_SUCCESS;
 }
 
+MPI_Info new_hints(void) { return (MPI_Info)add_own_handle(INFO, must(calloc(1, sizeof(struct info)))); }
+
 int MPI_Info_dup(MPI_Info handle, MPI_Info *made) {
     int code;
     struct info *info = known(handle, "MPI_Info_dup", &code);

@@ -77,6 +77,12 @@ static void warn_of_request(const struct rank *rank, const struct request *reque
     else if (the_run.strict) warn_at_end(rank->number, NULL, "never freed: the request of %s at %s on %s", request->name, request->site, comm_name(request->comm, name));
 }
 
+/* Whether a place of a table has an object that the program is to free. */
+static bool is_programs(int kind, const struct table *table, uint32_t at) {
+    const void *object = table->objects[at];
+    return object != NULL && table->makers[at].call != NULL && !(kind == TYPE && ((const struct type *)object)->predefined);
+}
+
 void warn_of_left(struct rank *rank) {
     static const char *const kinds[KINDS] = { [COMM] = "the communicator", [GROUP] = "the group", [TYPE] = "the type", [OP] = "the operation", [INFO] = "the info object",
                                               [ERRHANDLER] = "the error handler", [WINDOW] = "the window", [FILE_] = "the file" };
@@ -85,7 +91,7 @@ void warn_of_left(struct rank *rank) {
     for (int kind = 0; kind < KINDS && the_run.strict; kind++) {
         const struct table *table = &rank->tables[kind];
         for (uint32_t i = 0; kinds[kind] != NULL && i < table->many; i++)
-            if (table->objects[i] != NULL && !(kind == TYPE && ((struct type *)table->objects[i])->predefined)) warn_at_end(rank->number, NULL, "never freed: %s of %s at %s", kinds[kind], table->makers[i].call, table->makers[i].site);
+            if (is_programs(kind, table, i)) warn_at_end(rank->number, NULL, "never freed: %s of %s at %s", kinds[kind], table->makers[i].call, table->makers[i].site);
     }
     const struct table *taken = &rank->tables[TAKEN];
     for (uint32_t i = 0; i < taken->many; i++)

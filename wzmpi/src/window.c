@@ -119,7 +119,7 @@ static int make_window(struct comm *comm, const struct exposure *mine, int flavo
     remove_handle(COMM, handle);
     use_handler(own, &errors_are_fatal);
     *made = (MPI_Win)add_handle(WINDOW, window);
-    MPI_Info_create(&my_window(window)->info);
+    my_window(window)->info = new_hints();
     return info != MPI_INFO_NULL ? MPI_Win_set_info(*made, info) : MPI_SUCCESS;
 }
 

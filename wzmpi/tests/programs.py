@@ -1,13 +1,14 @@
 #!/usr/bin/env python3
 """Builds programs of Debian's sources by wzcc and wzfort and by MPICH's compilers, runs both, and compares what they print and write:
 
-    tests/programs.py FOLDER [--bin BIN] [--only WORD ..] [--keep FOLDER] [--strict]
+    tests/programs.py FOLDER [--bin BIN] [--only WORD ..] [--keep FOLDER] [--strict] [--alone]
 
 FOLDER has unpacked sources (apt-get source mpich netpipe pnetcdf hypre simgrid tachyon mrbayes; where there is no archive of a package, its
 orig.tar is enough). Debian's packages mpich, gfortran and, for pnetcdf, autoconf, automake and libtool have the other tools. A set of
 programs is built in copies of its sources, in a temporary folder or that of --keep, where what is built is taken as it is. --only takes sets
-and programs whose names have one of the words; --strict runs ours under --strict --check. A program is alike where both end with one status
-and print the same lines, in whatever order, but for words that are times, and leave the same file; it is accused where wzrun says anything.
+and programs whose names have one of the words; --strict runs ours under --strict --check, --alone ours without MPICH's. A program is alike where both end with one status
+and print the same lines, in whatever order, but for words that are times, and leave the same file, and alone where it ends with status 0; it
+is accused where wzrun says anything.
 Ends with 0 where all are alike and none is accused.
 """
 
@@ -81,10 +82,11 @@ def main():
     parser.add_argument("--only", nargs="+", default=[""])
     parser.add_argument("--keep", type=pathlib.Path)
     parser.add_argument("--strict", action="store_true")
+    parser.add_argument("--alone", action="store_true")
     options = parser.parse_args()
     binaries = options.bin.resolve()
     both = [Tools("wzrun", {"CC": str(binaries / "wzcc"), "FC": str(binaries / "wzfort")}, [str(binaries / "wzrun"), "-q", *(["--strict", "--check"] if options.strict else []), "-n"]),
-            Tools("MPICH", {"CC": "mpicc.mpich", "FC": "mpifort.mpich"}, ["mpirun.mpich", "-n"])]
+            Tools("MPICH", {"CC": "mpicc.mpich", "FC": "mpifort.mpich"}, ["mpirun.mpich", "-n"])][: 1 if options.alone else 2]
     failed = tried = unbuilt = accused = 0
     with tempfile.TemporaryDirectory() as made:
         out = (options.keep or pathlib.Path(made)).resolve()
@@ -98,14 +100,14 @@ def main():
                 continue
             folders = [tools.built(it, sources[-1], out / f"{tools.name}-{name}") for tools in both]
             for program in programs if all(folders) else []:
-                ours, theirs = (tools.played(program, folder, it.times) for tools, folder in zip(both, folders))
-                faults = list(differences(ours, theirs))
+                ours, *theirs = (tools.played(program, folder, it.times) for tools, folder in zip(both, folders))
+                faults = list(differences(ours, theirs[0])) if theirs else [f"status {ours[0]}"] if ours[0] != 0 else []
                 tried += 1
                 failed += bool(faults)
                 accused += bool(ours[3])
-                print(f"| {name} | {pathlib.Path(program.name).name} {program.words} | {program.ranks} | {'; '.join(faults) or 'alike'} | {' / '.join(ours[3][:3])} |", flush=True)
+                print(f"| {name} | {pathlib.Path(program.name).name} {program.words} | {program.ranks} | {'; '.join(faults) or ('alike' if theirs else 'status 0')} | {' / '.join(ours[3][:3])} |", flush=True)
             unbuilt += not all(folders)
-    print(f"{tried - failed} of {tried} programs end as under MPICH; {accused} are accused" + (f"; {unbuilt} sets can't be built" if unbuilt else ""))
+    print(f"{tried - failed} of {tried} programs end {'with status 0' if options.alone else 'as under MPICH'}; {accused} are accused" + (f"; {unbuilt} sets can't be built" if unbuilt else ""))
     return 1 if failed or unbuilt or accused else 0
 
 

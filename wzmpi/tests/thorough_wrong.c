@@ -199,6 +199,17 @@ static void freed(void) {
 }
 static void no_memory(void) { MPI_Send((void *)64, 4, MPI_INT, rank, 0, MPI_COMM_WORLD); }
 
+/* ---- what is never freed, and has objects of its own that aren't the program's to free */
+static void leaked_window(void) {
+    static int exposed[4];
+    MPI_Win window;
+    MPI_Win_create(exposed, sizeof exposed, sizeof(int), MPI_INFO_NULL, MPI_COMM_WORLD, &window);
+}
+static void leaked_file(void) {
+    MPI_File file;
+    MPI_File_open(MPI_COMM_SELF, "/dev/null", MPI_MODE_RDONLY, MPI_INFO_NULL, &file);
+}
+
 #define CASE(name) { #name, name }
 static const struct {
     const char *name;
@@ -208,7 +219,7 @@ static const struct {
     CASE(leaked_group), CASE(leaked_operation), CASE(leaked_request), CASE(leaked_collective), CASE(leaked_info), CASE(leaked_split), CASE(sendrecv), CASE(sendrecv_columns),
     CASE(two_receives), CASE(receive_into_sent), CASE(send_what_comes), CASE(collective_into_pending), CASE(two_collectives), CASE(started_into_pending),
     CASE(gathered_places), CASE(alltoall_places), CASE(type_on_itself), CASE(elements_on_themselves), CASE(in_place_alone), CASE(in_place_gathered), CASE(other_periods),
-    CASE(other_sizes), CASE(other_graph), CASE(structures), CASE(static_operations), CASE(unmapped), CASE(freed), CASE(no_memory),
+    CASE(other_sizes), CASE(other_graph), CASE(structures), CASE(static_operations), CASE(unmapped), CASE(freed), CASE(no_memory), CASE(leaked_window), CASE(leaked_file),
 };
 
 int main(int argc, char **argv) {
