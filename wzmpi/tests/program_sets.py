@@ -32,6 +32,7 @@ ROMIO_HEAD = ["""for it in *.in; do sed -e 's/@F77MPIOINC@//' -e 's/@FORTRAN_MPI
 SIMGRID_HEAD = ["mkdir -p head/simgrid head/smpi head/xbt && cat > head/stand_in.h <<'END'\n"
                 "#include <assert.h>\n#include <stdlib.h>\n#include <string.h>\n#include <unistd.h>\n#include <getopt.h>\n"
                 "#define xbt_malloc malloc\n#define xbt_free free\n#define xbt_new0(type, count) ((type*)calloc(count, sizeof(type)))\n#define xbt_assert(is, ...) assert(is)\n"
+                "#define XBT_LOG_NEW_DEFAULT_CATEGORY(name, text) extern int stand_in_##name\n#define XBT_INFO(...) (printf(__VA_ARGS__), puts(\"\"))\n"
                 "#define sleep(seconds) 0\n#define sg_actor_self_get_pid() 0\n#define TRACE_smpi_set_category(name) ((void)0)\n"
                 "#define SMPI_SHARED_MALLOC malloc\n#define SMPI_SHARED_FREE free\n#define SMPI_SAMPLE_GLOBAL(first, is, next, ...) for (first; is; next)\nEND\n"
                 "for it in simgrid/actor.h simgrid/instr.h; do echo '#include \"../stand_in.h\"' > head/$it; done; echo '#include <mpi.h>' > head/smpi/mpi.h"]
