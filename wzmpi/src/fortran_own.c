@@ -45,5 +45,11 @@ void __wrap__gfortran_error_stop_string(const char *text, size_t length, bool qu
     exit(1);
 }
 
+/* libgfortran's handlers of signals come with its options. */
+void wz_keep_handlers_(void (*set_options)(int, int *), int many, int *options);
+void __real__gfortran_set_options(int many, int *options);
+void __wrap__gfortran_set_options(int many, int *options);
+void __wrap__gfortran_set_options(int many, int *options) { wz_keep_handlers_(__real__gfortran_set_options, many, options); }
+
 void __wrap__gfortran_exit_i4(const int *code);
 void __wrap__gfortran_exit_i4(const int *code) { exit(code != NULL ? *code : 0); }

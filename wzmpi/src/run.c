@@ -63,8 +63,10 @@ static const char *find_program(const char *name) {
 
 /* ---- crashes */
 
-static const int crashes[] = { SIGSEGV, SIGBUS, SIGFPE, SIGILL, SIGABRT };
-static const char *const crash_names[] = { "segmentation fault", "bus error", "arithmetic error", "illegal instruction", "abort" };
+enum { CRASHES = 5, KEPT = 6 };
+static const int kept[KEPT] = { SIGSEGV, SIGBUS, SIGFPE, SIGILL, SIGABRT, SIGQUIT }; /* first those of crashes */
+static const char *const crash_names[CRASHES] = { "segmentation fault", "bus error", "arithmetic error", "illegal instruction", "abort" };
+static void (*after_crash[CRASHES])(int); /* libgfortran's own, which write a backtrace */
 
 /* In a call of MPI what isn't there is the program's buffer, or what a function of the program uses that the call calls. */
 static int write_crash(char *text, size_t room, const char *name, const void *address) {
@@ -83,11 +85,13 @@ static void tell_crash(int number, siginfo_t *about, void *context) {
     char text[1500];
     (void)context;
     const char *name = "a signal";
-    for (int i = 0; i < 5; i++)
-        if (crashes[i] == number) name = crash_names[i];
+    void (*after)(int) = NULL;
+    for (int i = 0; i < CRASHES; i++)
+        if (kept[i] == number) name = crash_names[i], after = after_crash[i];
     int length = current_rank == NULL ? 0 : write_crash(text, sizeof text, name, number == SIGSEGV || number == SIGBUS ? about->si_addr : NULL);
     if (length > 0 && write(2, text, (size_t)length) < 0) _exit(128 + number);
     signal(number, SIG_DFL);
+    if (after != NULL) after(number);
     raise(number);
 }
 
@@ -95,8 +99,24 @@ static void tell_crash(int number, siginfo_t *about, void *context) {
 static void tell_crashes(void) {
     struct sigaction before, action = { .sa_sigaction = tell_crash, .sa_flags = SA_ONSTACK | SA_NODEFER | SA_SIGINFO };
     sigemptyset(&action.sa_mask);
-    for (int i = 0; i < 5; i++)
-        if (sigaction(crashes[i], NULL, &before) == 0 && before.sa_handler == SIG_DFL) sigaction(crashes[i], &action, NULL);
+    for (int i = 0; i < CRASHES; i++)
+        if (sigaction(kept[i], NULL, &before) == 0 && before.sa_handler == SIG_DFL) sigaction(kept[i], &action, NULL);
+}
+
+/* As a program in Fortran begins, libgfortran takes these signals. The handlers that were there stay, and hand crashes on to it. */
+void wz_keep_handlers_(void (*set_options)(int, int *), int many, int *options) {
+    static pthread_mutex_t guard = PTHREAD_MUTEX_INITIALIZER; /* all ranks begin at one time */
+    struct sigaction before[KEPT], own;
+    pthread_mutex_lock(&guard);
+    for (int i = 0; i < KEPT; i++) sigaction(kept[i], NULL, &before[i]);
+    set_options(many, options);
+    for (int i = 0; i < KEPT; i++) {
+        sigaction(kept[i], NULL, &own);
+        if (before[i].sa_handler == SIG_DFL || before[i].sa_handler == own.sa_handler) continue;
+        if (i < CRASHES) after_crash[i] = own.sa_handler;
+        sigaction(kept[i], &before[i], NULL);
+    }
+    pthread_mutex_unlock(&guard);
 }
 
 /* ---- ranks */

@@ -8,4 +8,7 @@ void note_copy(int rank, const void *base); /* where a rank's copy of the progra
 /* wzrun itself. */
 int wz_main_(int argc, char **argv);
 
+/* A program in Fortran. */
+void wz_keep_handlers_(void (*set_options)(int, int *), int many, int *options);
+
 #endif

@@ -4,7 +4,7 @@
     tests/check_fortran.py BIN [--write]
 
 old.f, modern.f90 and newest.f90 have programs without a mistake, by mpif.h, the module mpi and the module mpi_f08; wrong.f90 has programs
-with one planted mistake each, and wrong.want what is said of them. --write writes that anew. Ends with 0 where all is as it should be.
+with one planted mistake each, and wrong.want what is said of them; signals.f90 is sent some. --write writes that anew. Ends with 0 where all is as it should be.
 """
 
 import os
@@ -69,6 +69,17 @@ def check_wrong(binaries, out, write):
     return failed
 
 
+def check_signals(binaries, out):
+    """SIGQUIT asks where the ranks stand, and a crash is told beside libgfortran's backtrace."""
+    program = compiled(binaries, HERE / "signals.f90", out)
+    status, said = run(binaries, ["-n", "2"], program, "asked")
+    is_so = status == 0 and "wzrun: SIGQUIT: here the ranks stand:" in said and "rank 1 waits in MPI_Barrier" in said and "and goes on" in said
+    failed = checking.reported(is_so, f"signals.f90 asked: status {status}: {said}")
+    status, said = run(binaries, ["-n", "2"], program, "crash")
+    is_so = status == 139 and "wzrun: rank 1 crashes: segmentation fault" in said and "Backtrace for this error" in said and "signals.f90:18" in said
+    return failed + checking.reported(is_so, f"signals.f90 crash: status {status}: {said}")
+
+
 def main():
     binaries, write = pathlib.Path(sys.argv[1]).resolve(), "--write" in sys.argv
     if not (binaries / "wzfort").exists() or shutil.which((os.environ.get("WZ_FC") or "gfortran").split()[0]) is None:
@@ -76,7 +87,7 @@ def main():
         return 0
     with tempfile.TemporaryDirectory() as folder:
         failed = check_wrong(binaries, pathlib.Path(folder), write)
-        failed += 0 if write else check_right(binaries, pathlib.Path(folder))
+        failed += 0 if write else check_right(binaries, pathlib.Path(folder)) + check_signals(binaries, pathlib.Path(folder))
     return min(failed, 1)
 
 

@@ -76,10 +76,10 @@ MRBAYES_WORDS = "set autoclose=yes nowarn=yes seed=7 swapseed=7\nexecute ../../e
 MRBAYES = [Program("src/mb", ranks, "", None, MRBAYES_WORDS.format(data)) for data, ranks in (("primates", 4), ("primates", 2), ("cynmix", 4))]
 
 SETS = {
-    # Its MPI_Win_create has NULL in place of MPI_INFO_NULL, which MPICH refuses, as wzrun does; it frees no window, of which --strict warns. Without -I, -a sends memory that it receives into.
+    # Its MPI_Win_create has NULL in place of MPI_INFO_NULL, which MPICH refuses, as wzrun does; it frees no window, of which --strict warns. Without -I, -a sends memory that it receives into; without -a, -2 leans on buffers.
     "netpipe": Set("NetPIPE-*/src", ["sed -i 's/1, NULL, MPI_COMM_WORLD/1, MPI_INFO_NULL, MPI_COMM_WORLD/' mpi2.c", "$CC -O1 -w -DMPI -DMPI2 netpipe.c mpi2.c -o NPmpi2", "$CC -O1 -w -DMPI netpipe.c mpi.c -o NPmpi"],
                    [Program("NPmpi2", 2, "-i -u 9000"), Program("NPmpi2", 2, "-g -u 9000"), Program("NPmpi", 2, "-i -u 9000"), Program("NPmpi", 2, "-a -I -u 9000"), Program("NPmpi", 2, "-S -u 9000"),
-                    Program("NPmpi", 2, "-2 -u 9000")], r"\d+ times|[0-9.]+ Mbps in +[0-9.]+ usec|^\d: .*"),
+                    Program("NPmpi", 2, "-2 -a -I -u 9000")], r"\d+ times|[0-9.]+ Mbps in +[0-9.]+ usec|^\d: .*"),
     "romio": Set(ROMIO, ROMIO_HEAD + each_compiled("$CC", ".c", ROMIO_C), ROMIO_C),
     "romio-fortran": Set(ROMIO, ROMIO_HEAD + each_compiled("$FC", ".f", ROMIO_FORTRAN, "-fallow-argument-mismatch"), ROMIO_FORTRAN),
     "simgrid-files": Set("simgrid-*/teshsuite/smpi", ["sed -i 's,/scratch/,,' io-*/*.c"] + SIMGRID_HEAD + simgrid(SIMGRID_FILES), SIMGRID_FILES),

@@ -58,7 +58,7 @@ class Tools:
                                   timeout=LONGEST, text=True, errors="replace")
         except subprocess.TimeoutExpired:
             return "hangs", [], None, []
-        said = [line for line in done.stdout.splitlines() if line.startswith("wzrun: ")]
+        said = [line for line in done.stdout.splitlines() if "wzrun: " in line]
         lines = sorted(re.sub(times, "..", line).strip() for line in done.stdout.splitlines() if line not in said)
         left = place / program.file if program.file else None
         return done.returncode, lines, left.read_bytes() if left and left.exists() else None, said
