@@ -9,7 +9,8 @@ their numbers of ranks are those of the lists of its folders PART, coll where no
 spawn's; of Fortran's io perl makes the sources there. A test passes if it ends with status 0 and says "No Errors" within SECONDS, 180 where
 none are said, or within the list's own limit; where the list wants it to fail, if it ends with another status. Those that don't pass run
 once more at the end, one at a time, for up to four times as long. BIN has wzcc and wzrun. --options are wzrun's, as "--strict --check";
-what wzrun says of a test that passes is told. --text compares what the requests got with what `colljob plain`, which COLLJOB or PATH names,
+what wzrun says of a test that passes is told. With --strict the tests are compiled with -DUSE_STRICT_MPI, by which they leave out what MPI
+doesn't allow, as reductions over MPI_CHAR. --text compares what the requests got with what `colljob plain`, which COLLJOB or PATH names,
 says of the calls. --under runs wzrun under these words, as "valgrind -q". --keep has the compiled programs stay in a folder; those that are
 there are taken as they are. Ends with 0 where all pass.
 """
@@ -101,8 +102,9 @@ def sources_of(folder, name):
 class Programs:
     """The compiled tests."""
 
-    def __init__(self, folder, wzcc, out):
+    def __init__(self, folder, wzcc, out, strict):
         self.folder, self.wzcc, self.out, self.made = folder, wzcc, out, {}
+        self.strict = ["-DUSE_STRICT_MPI"] if strict else []
         self.wzfort = str(pathlib.Path(wzcc).with_name("wzfort"))
         threads = "#define THREAD_PACKAGE_NAME THREAD_PACKAGE_POSIX\n"
         (out / "include").mkdir(exist_ok=True)
@@ -112,7 +114,7 @@ class Programs:
 
     def words(self, sources, defined):
         include = [self.out, self.folder / "include", self.folder / "util", self.folder / "dtpools/include", sources[0].parent]
-        return [self.wzcc, "-O1", "-w", *defined, *(f"-I{it}" for it in include), *sources, *self.util]
+        return [self.wzcc, "-O1", "-w", *defined, *self.strict, *(f"-I{it}" for it in include), *sources, *self.util]
 
     def prepare_fortran(self, part):
         """The headers that configure makes, and what the tests of a language share. The words for the compiler."""
@@ -224,7 +226,7 @@ def main():
     with tempfile.TemporaryDirectory() as made:
         out = (options.keep or pathlib.Path(made)).resolve()
         out.mkdir(parents=True, exist_ok=True)
-        programs = Programs(options.folder, str(options.bin / "wzcc"), out)
+        programs = Programs(options.folder, str(options.bin / "wzcc"), out, "--strict" in options.options)
         listed = [it for part in options.parts for it in rows(options.folder, part) if not options.only or it.name.rsplit("/", 1)[1] in options.only]
         for part in dict.fromkeys(it.name.rsplit("/", 1)[0] for it in listed):
             generate(options.folder, part)
