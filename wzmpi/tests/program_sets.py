@@ -71,7 +71,7 @@ HYPRE = [Program(f"src/examples/{name}", ranks) for name, ranks in (("ex5f", 4),
 # ---- Tachyon and MrBayes
 
 TACHYON = [Program("compile/linux-mpi/tachyon", ranks, f"../../../scenes/{scene}.dat -o image.tga", "image.tga")
-           for scene, ranks in (("2balls", 4), ("dna", 4), ("tpolytest", 3), ("spotlight", 2))]
+           for scene, ranks in (("2balls", 4), ("dna", 4), ("transtest", 3), ("spotlight", 2))]
 MRBAYES_WORDS = "set autoclose=yes nowarn=yes seed=7 swapseed=7\nexecute ../../examples/{0}.nex\nlset nst=6 rates=gamma\nmcmc ngen=1000 samplefreq=100 printfreq=100 nruns=2 nchains=4\nquit\n"
 MRBAYES = [Program("src/mb", ranks, "", None, MRBAYES_WORDS.format(data)) for data, ranks in (("primates", 4), ("primates", 2), ("cynmix", 4))]
 
