@@ -145,7 +145,7 @@ class Programs:
 
     def compile_util(self):
         """What all tests share, once."""
-        for name in ("mtest", "mtest_common", "mtest_thread", "mtest_datatype", "mtest_datatype_gen"):
+        for name in ("mtest", "mtest_common", "mtest_thread", "mtest_datatype", "mtest_datatype_gen", "dtypes"):
             if not (self.folder / f"util/{name}.c").exists():
                 continue
             made = self.out / f"{name}.o"
@@ -200,7 +200,7 @@ def judged(done, row, text, values):
     said = (done.stderr + done.stdout).strip().splitlines()
     if row.fails and done.returncode != 0:
         return "passes", f"status {done.returncode}"
-    if done.returncode != 0 or "No Errors" not in done.stdout:
+    if done.returncode != 0 or not re.search("No [Ee]rrors", done.stdout):
         return f"status {done.returncode}", " | ".join(said[:3])
     if text:
         same = same_values(text, values)
