@@ -27,9 +27,10 @@ shared="-L$lib -lworzsunab -pthread -Wl,-rpath,$lib"
 shim="-I$here/c/src $(echo "$here"/c/src/*.c)"
 # No check takes more than a minute on an idle machine; one that takes a quarter of an hour hangs.
 limit="timeout 900"
-# The library publishes a combination that members share by an atomic of its own, which neither the sanitizer nor Helgrind sees.
-export TSAN_OPTIONS="suppressions=$here/c/tsan.suppressions"
-helgrind="valgrind --tool=helgrind -q --error-exitcode=9 --fair-sched=yes --suppressions=$here/c/helgrind.suppressions"
+helgrind="valgrind --tool=helgrind -q --error-exitcode=9 --fair-sched=yes"
+# What Helgrind doesn't check, because the library's own atomics order it.
+blocks=$here/c/helgrind_blocks.c
+allocating="-Wl,--wrap=malloc,--wrap=realloc"
 passed=0
 failed=0
 under_way=
@@ -235,7 +236,7 @@ check_helgrind() {
         [ "$client" != helped ] || sources="$sources $helping"
         [ "$client" != one_refusal ] || sources="$sources $here/c/sum.c -Wl,--wrap=wz_post"
         # shellcheck disable=SC2086
-        [ -x "$work/$client.helgrind" ] || check "build $client, helgrind" $c -DWZ_HELGRIND $sources $shim $static -o "$work/$client.helgrind"
+        [ -x "$work/$client.helgrind" ] || check "build $client, helgrind" $c -DWZ_HELGRIND $sources "$blocks" $shim $static $allocating -o "$work/$client.helgrind"
         # shellcheck disable=SC2086
         check "$words, helgrind" $helgrind "$work/$client.helgrind" $arguments
     done
@@ -256,9 +257,11 @@ check_leaks() {
 # The combiner's objects, compiled with these options, for programs of other languages. Prints their names.
 shim_objects() {
     made=$work/shim.$1
+    own=
+    [ "$1" != helgrind ] || own=$blocks
     shift
     mkdir -p "$made"
-    for source in "$here"/c/src/*.c; do
+    for source in "$here"/c/src/*.c $own; do
         # shellcheck disable=SC2086
         $c "$@" -fPIC -c "$source" -o "$made/$(basename "$source" .c).o" || return
     done
@@ -273,7 +276,7 @@ check_cpp() {
     try_client cpp shared $cplus "$here/cpp/sum.cpp" $shared
     if has valgrind && echo '#include <valgrind/helgrind.h>' | $cxx -x c++ -fsyntax-only - 2> /dev/null; then
         # shellcheck disable=SC2086
-        check "build cpp, helgrind" $cplus "$here/cpp/sum.cpp" $(shim_objects helgrind -DWZ_HELGRIND) $static -o "$work/cpp.helgrind"
+        check "build cpp, helgrind" $cplus "$here/cpp/sum.cpp" $(shim_objects helgrind -DWZ_HELGRIND) $static $allocating -o "$work/cpp.helgrind"
         # shellcheck disable=SC2086
         [ ! -x "$work/cpp.helgrind" ] || check "cpp, helgrind" $helgrind "$work/cpp.helgrind"
     fi
@@ -329,8 +332,8 @@ check_rust_threads() {
     else
         skip "Rust under ThreadSanitizer" "programs of this rustc don't run under it here"
     fi
-    unset RUSTC_BOOTSTRAP RUSTFLAGS
-    export TSAN_OPTIONS="suppressions=$here/c/tsan.suppressions" WORZSUNAB_LIB="$lib"
+    unset RUSTC_BOOTSTRAP RUSTFLAGS TSAN_OPTIONS
+    export WORZSUNAB_LIB="$lib"
 }
 
 instrument_library() {

@@ -1,6 +1,7 @@
 /* A post or a test does its own part and a fixed number of steps, also while other ranks' long rows are combined, and no combination goes back
    undone: linked with -Wl,--wrap=wz_run_work -Wl,--wrap=wz_return_work -Wl,--wrap=wz_step -Wl,--wrap=wz_settle, it counts what each call makes.
    Tests alone complete, also where ranks wait that get no processor: linked with -Wl,--wrap=pthread_cond_wait, it holds their threads up.
+   Ranks that wait compute two combinations of wide rows at the same time.
    bounded RANKS [ROUNDS [times]]: with `times` it prints the longest microseconds of a post and of a test too. */
 #include <stdio.h>
 #include <stdlib.h>
@@ -40,6 +41,11 @@ int32_t __wrap_wz_settle(wz_engine *engine);
 int __real_pthread_cond_wait(pthread_cond_t *woken, pthread_mutex_t *guard);
 int __wrap_pthread_cond_wait(pthread_cond_t *woken, pthread_mutex_t *guard);
 
+static void sleep_for(long milliseconds) {
+    const struct timespec time = { 0, milliseconds * 1000000 };
+    nanosleep(&time, NULL);
+}
+
 int32_t __wrap_wz_step(wz_engine *engine, uint32_t budget, uint32_t *actions) {
     int32_t code = __real_wz_step(engine, budget, actions);
     steps += *actions;
@@ -51,7 +57,20 @@ int32_t __wrap_wz_settle(wz_engine *engine) {
     return __real_wz_settle(engine);
 }
 
+/* Whether a combination is computed only once another thread has one too, and whether two did. */
+static bool meets, two_met;
+static int in_meeting, waits_left = 5000;
+
+/* Waits for another thread's combination, for some seconds at most, all of them together. */
+static void meet(void) {
+    if (!__atomic_load_n(&meets, __ATOMIC_SEQ_CST)) return;
+    if (__atomic_add_fetch(&in_meeting, 1, __ATOMIC_SEQ_CST) > 1) __atomic_store_n(&two_met, true, __ATOMIC_SEQ_CST);
+    while (!__atomic_load_n(&two_met, __ATOMIC_SEQ_CST) && __atomic_sub_fetch(&waits_left, 1, __ATOMIC_SEQ_CST) > 0) sleep_for(1);
+    __atomic_sub_fetch(&in_meeting, 1, __ATOMIC_SEQ_CST);
+}
+
 int32_t __wrap_wz_run_work(wz_work *work) {
+    meet();
     int32_t code = __real_wz_run_work(work);
     combinations++;
     if (code == WZ_DONE) __atomic_store_n(&computed[own_rank], work, __ATOMIC_SEQ_CST);
@@ -64,11 +83,6 @@ int32_t __wrap_wz_return_work(wz_engine *engine, wz_work *work) {
     HOLDS(by < MOST);
     __atomic_store_n(&computed[by], NULL, __ATOMIC_SEQ_CST);
     return __real_wz_return_work(engine, work);
-}
-
-static void sleep_for(long milliseconds) {
-    const struct timespec time = { 0, milliseconds * 1000000 };
-    nanosleep(&time, NULL);
 }
 
 int __wrap_pthread_cond_wait(pthread_cond_t *woken, pthread_mutex_t *guard) {
@@ -221,6 +235,29 @@ static void called_in_vain(uint8_t me) {
     for (int at = 0; at < LONG; at++) HOLDS(rows[me][at] == ranks * at);
 }
 
+/* Of what rank 0's post leaves two of the others, who sleep in their waits, compute at the same time. An allreduce of four ranks begins with
+   four combinations. */
+static void two_at_once(uint8_t me) {
+    static int32_t rows[MOST][LONG];
+    wz_request request;
+    if (ranks < 4 || shared.at->processors < 2) return;
+    for (int at = 0; at < LONG; at++) rows[me][at] = at;
+    pthread_barrier_wait(&together);
+    if (me == 0) {
+        until_others_sleep();
+        __atomic_store_n(&meets, true, __ATOMIC_SEQ_CST);
+    }
+    DONE(wz_iallreduce(&shared, me, 0, rows[me], rows[me], LONG, WZ_INT32, WZ_SUM, &request));
+    if (me != 0) DONE(wz_wait(&shared, me, &request));
+    pthread_barrier_wait(&together);
+    if (me == 0) {
+        __atomic_store_n(&meets, false, __ATOMIC_SEQ_CST);
+        HOLDS(two_met);
+        DONE(wz_wait(&shared, me, &request));
+    }
+    for (int at = 0; at < LONG; at++) HOLDS(rows[me][at] == ranks * at);
+}
+
 /* Once no long row is under way, short ones are combined under the lock again. */
 static void short_again(uint8_t me) {
     int32_t one = 1, sum = 0;
@@ -242,6 +279,7 @@ static void *rank(void *number) {
     }
     polled(me);
     left_to_others(me);
+    two_at_once(me); /* before called_in_vain, after which rank 0's post may compute too */
     called_in_vain(me);
     short_again(me);
     wz_shared_leave(&shared, me);

@@ -1,9 +1,10 @@
 /* The words that threads read and write without the lock. All loads and stores have one order (sequential consistency).
- */
+   And what the code declares to checkers of threads: Helgrind with WZ_HELGRIND, ThreadSanitizer where it compiles this. */
 #ifndef WZ_ATOMICS_H
 #define WZ_ATOMICS_H
 
 #include <stdatomic.h>
+#include <stddef.h>
 #ifdef WZ_HELGRIND
 #include <valgrind/helgrind.h>
 #endif
@@ -36,6 +37,35 @@ static inline int swap(atomic_int *word, int value) {
     declare_load(word);
     return old;
 }
+
+#if defined(__SANITIZE_THREAD__)
+#define WZ_TSAN
+#elif defined(__has_feature)
+#if __has_feature(thread_sanitizer)
+#define WZ_TSAN
+#endif
+#endif
+
+/* A call of the library outside the lock. Atomics of the library alone order what such calls do to its memory: ranks
+   count the owners of a block, and publish results to each other. Both checkers see the accesses, and no such order.
+   ThreadSanitizer therefore compares no access of the call, and learns which row of the caller's it wrote; Helgrind
+   checks no block that the call allocated (helgrind_blocks.c). */
+#if defined(WZ_TSAN)
+void AnnotateIgnoreWritesBegin(const char *file, int line); /* and reads */
+void AnnotateIgnoreWritesEnd(const char *file, int line);
+void __tsan_write_range(void *row, size_t bytes);
+static inline void begin_unlocked_call(void) { AnnotateIgnoreWritesBegin(__FILE__, __LINE__); }
+static inline void end_unlocked_call(void) { AnnotateIgnoreWritesEnd(__FILE__, __LINE__); }
+static inline void declare_written(void *row, size_t bytes) { __tsan_write_range(row, bytes); }
+#elif defined(WZ_HELGRIND)
+void begin_unlocked_call(void);
+void end_unlocked_call(void);
+static inline void declare_written(void *row, size_t bytes) { (void)row, (void)bytes; }
+#else
+static inline void begin_unlocked_call(void) {}
+static inline void end_unlocked_call(void) {}
+static inline void declare_written(void *row, size_t bytes) { (void)row, (void)bytes; }
+#endif
 
 /* Lets the processor's other hardware thread run, where it has one. */
 static inline void pause_processor(void) {

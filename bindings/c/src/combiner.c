@@ -45,11 +45,15 @@ static void answer_waits(struct wz_combiner *combiner, int32_t progress) {
 
 /* ---- under the lock: serving */
 
+void note_row(struct wz_combiner *combiner, size_t bytes) {
+    if (bytes >= WZ_LONG && bytes > combiner->longest) combiner->longest = bytes;
+}
+
 /* Before something is begun: once no request has bytes any longer, no row is long. */
 static void forget_long(struct wz_combiner *combiner) {
     uint64_t lent = 0;
-    if (!combiner->has_long || combiner->outside > 0 || combiner->is_left) return;
-    if (wz_lent(&combiner->engine, &lent) == WZ_DONE && lent == 0) combiner->has_long = false;
+    if (combiner->longest == 0 || combiner->outside > 0 || combiner->is_left) return;
+    if (wz_lent(&combiner->engine, &lent) == WZ_DONE && lent == 0) combiner->longest = 0;
 }
 
 /* A rank that had left and begins, tests or waits again is there again: else it would count both as waiting and as
@@ -85,7 +89,7 @@ static void apply_published(struct wz_combiner *combiner, struct record *record)
     if (code == WZ_DONE && operation->answered == BEGINS) {
         combiner->stalled = false;
         combiner->unsettled = true;
-        if (operation->parts == NULL && operation->length >= WZ_LONG) combiner->has_long = true;
+        if (operation->parts == NULL) note_row(combiner, operation->length);
     }
     note_refusal(combiner, record, code);
     answer(combiner, record, code);
@@ -140,9 +144,16 @@ static bool leaves_work(struct wz_combiner *combiner, struct record *me) {
     return !waits && (combiner->waiting > 0 || has_helpers) && me->late < WZ_LOOKS;
 }
 
+/* Whether one more may compute beside those who do: beside progress threads, or where rows are wide and not all
+   processors compute. Two ranks combine the same operands, so that the second would only wait for the first. */
+static bool has_room(struct wz_combiner *combiner) {
+    if (load(&combiner->helpers) > 0) return true;
+    return combiner->ranks > 2 && combiner->longest >= WZ_WIDE && combiner->outside < combiner->processors;
+}
+
 /* Makes actions up to the next combination, which its thread is to compute with the lock free, or leaves. A combination
    that is left stays taken out, because the engine would compare its rows, under the lock, to take it back. Where there
-   are progress threads, one more is left to them, which is computed at the same time. */
+   is room, one more is left to another thread, which computes it at the same time. */
 static int32_t take_combination(struct wz_combiner *combiner, struct record *me) {
     int32_t code = find_next(combiner);
     if (!combiner->is_left || leaves_work(combiner, me)) return code;
@@ -152,14 +163,14 @@ static int32_t take_combination(struct wz_combiner *combiner, struct record *me)
     combiner->is_left = false;
     combiner->outside++;
     store(&me->combination, COMPUTING);
-    return load(&combiner->helpers) > 0 ? find_next(combiner) : WZ_DONE;
+    return has_room(combiner) ? find_next(combiner) : WZ_DONE;
 }
 
 /* Makes some progress, and answers whom it concerns. */
 static void make_some_progress(struct wz_combiner *combiner, struct record *me) {
     uint32_t actions = 0;
     int32_t code;
-    if (combiner->has_long) {
+    if (combiner->longest > 0) {
         code = take_combination(combiner, me);
     } else {
         code = wz_step(&combiner->engine, STEPS, &actions);
@@ -190,14 +201,14 @@ static void make_progress(struct wz_combiner *combiner, struct record *me) {
 bool try_lock(struct wz_combiner *combiner) { return !load(&combiner->held) && !swap(&combiner->held, 1); }
 
 /* Under the lock: where work is left and nobody computes who waits, calls one who waits, or else a progress thread, or
-   notes that the one who was called hasn't come yet. Where there are progress threads, it does so too while others
-   compute, if there is a combination besides theirs. */
+   notes that the one who was called hasn't come yet. Where there is room, it does so too while others compute, if there
+   is a combination besides theirs. */
 static void hand_on(struct wz_combiner *combiner, struct record *me) {
     struct record *found = NULL;
     int late = me->late;
     uint32_t records = count_records(combiner);
-    bool has_helpers = records > combiner->ranks + 1, is_parallel = has_helpers && combiner->is_left;
-    bool is_helped = combiner->waiting > 0 || has_helpers;
+    bool is_helped = combiner->waiting > 0 || records > combiner->ranks + 1;
+    bool is_parallel = combiner->is_left && has_room(combiner);
     if (is_helped && !combiner->unsettled) return;
     me->late = 0;
     if (!is_helped) return;
@@ -231,7 +242,9 @@ void combine(struct wz_combiner *combiner, struct record *me) {
     }
     unlock(combiner, me);
     if (load(&me->combination) != COMPUTING) return;
+    begin_unlocked_call();
     me->run = wz_run_work(me->work);
+    end_unlocked_call();
     store(&me->combination, COMPUTED);
 }
 

@@ -5,7 +5,8 @@
 
    A post, start or test makes at most STEPS actions, or computes one long combination where nobody waits. Ranks that
    wait make the rest: they go on until they are answered, and whoever gives the lock up while work is left calls one of
-   them. Long combinations are computed with the lock free, and come back through the record.
+   them. Long combinations are computed with the lock free, and come back through the record. Those of wide rows are
+   computed by several ranks at the same time: whoever takes one out leaves the next to a rank that is called.
 
    No rank has to win the lock, because whoever has it applies what stands in all records, and takes all combinations
    back. Only a rank that is called has to come by itself; where it doesn't, a rank that tests again and again computes
@@ -55,6 +56,12 @@ enum { TRIES = 16, IN_VAIN = 3 };
 /* Once a rank gives so many bytes, combinations are computed with the lock free, and its rows are copied so too. */
 #ifndef WZ_LONG
 #define WZ_LONG 4096
+#endif
+
+/* Once a rank gives so many bytes, as many ranks that wait compute combinations at the same time as there are
+   processors, if there are more than two ranks: a shorter one takes no longer than a call to another rank. */
+#ifndef WZ_WIDE
+#define WZ_WIDE 32768
 #endif
 
 /* A thread that waits yields its processor at each look after the first WZ_CLOSE_LOOKS, because another rank's thread
@@ -168,11 +175,12 @@ struct wz_combiner {
     uint32_t waiting;          /* ranks whose record waits or is called */
     uint32_t gone;             /* ranks that have left */
     uint32_t outside;          /* combinations that are computed with the lock free */
+    uint32_t processors;       /* for the process's threads, at the opening */
     bool is_short;             /* progress was refused memory last, so progress threads don't go on */
     uint32_t stalls;           /* how many were told */
     bool stalled;              /* nothing was begun since the last */
     bool unsettled;            /* actions may be left that can be made, or progress was refused memory */
-    bool has_long;             /* some rank gave a long row */
+    size_t longest;            /* the bytes of the longest row that a rank gave, or 0: no row is long */
     bool is_left;              /* `next` is a combination that is left to those who wait */
     wz_work *next;             /* what is taken out next */
     _Atomic uint64_t *numbers; /* by which operations are numbered; NULL: they aren't */
@@ -199,6 +207,8 @@ int32_t perform(wz_shared *shared, struct operation *operation);
 bool try_lock(struct wz_combiner *combiner);
 /* Under the lock, which it gives up: serves all ranks, makes progress, and computes a combination that it took out. */
 void combine(struct wz_combiner *combiner, struct record *me);
+/* Under the lock: notes how many bytes a rank gives. */
+void note_row(struct wz_combiner *combiner, size_t bytes);
 /* Under the lock. */
 void answer(struct wz_combiner *combiner, struct record *record, int32_t code);
 
@@ -208,6 +218,8 @@ void answer(struct wz_combiner *combiner, struct record *record, int32_t code);
 uint32_t count_records(struct wz_combiner *combiner);
 /* Whether a record is of a progress thread. */
 bool is_helper(const struct wz_combiner *combiner, const struct record *record);
+/* How many processors there are for the process's threads; 1 where that isn't known. */
+uint32_t count_processors(void);
 /* Room for progress threads, none of which is started; NULL where there is no memory. */
 struct helper *allocate_helpers(void);
 /* Ends all progress threads. */

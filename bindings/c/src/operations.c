@@ -55,8 +55,7 @@ static int32_t apply_start(struct wz_combiner *combiner, struct operation *opera
 static int32_t apply_start_all(struct wz_combiner *combiner, struct operation *operation) {
     int32_t code = wz_start_all(&combiner->engine, operation->rank, operation->parts, operation->many, operation->bytes,
                                 operation->length, operation->count);
-    for (size_t i = 0; i < *operation->count; i++)
-        if (operation->parts[i].room >= WZ_LONG) combiner->has_long = true;
+    for (size_t i = 0; i < *operation->count; i++) note_row(combiner, operation->parts[i].room);
     if (*operation->count > 0) {
         combiner->stalled = false;
         combiner->unsettled = true;
@@ -70,12 +69,18 @@ static int32_t apply_free(struct wz_combiner *combiner, struct operation *operat
 
 /* ---- posts and starts */
 
+static void drop_moved(struct operation *operation) {
+    begin_unlocked_call();
+    wz_drop_bytes(&operation->moved);
+    end_unlocked_call();
+}
+
 /* Where memory is short, the row is copied under the lock, and the call answers for that. */
 int32_t perform_giving(wz_shared *shared, struct operation *operation) {
     if (operation->length >= WZ_LONG && operation->length <= MOST_BYTES)
         wz_give(&operation->moved, operation->bytes, operation->length);
     int32_t code = perform(shared, operation);
-    if (operation->moved.full) wz_drop_bytes(&operation->moved);
+    if (operation->moved.full) drop_moved(operation);
     return code;
 }
 
@@ -202,6 +207,14 @@ int32_t apply_find(struct wz_combiner *combiner, struct operation *operation) {
 
 /* ---- tests and waits */
 
+static int32_t copy_moved_out(struct operation *operation) {
+    begin_unlocked_call();
+    int32_t code = wz_copy_out(&operation->moved, operation->out, operation->room, operation->count);
+    end_unlocked_call();
+    if (code == WZ_DONE) declare_written(operation->out, *operation->count);
+    return code;
+}
+
 static int32_t complete(wz_shared *shared, enum answered answered, uint8_t rank, wz_request *request, void *out,
                         size_t room, size_t *count) {
     struct operation operation = operation_of(answered, rank, apply_test);
@@ -213,8 +226,8 @@ static int32_t complete(wz_shared *shared, enum answered answered, uint8_t rank,
     if (room >= WZ_LONG) wz_give(&operation.moved, NULL, 0);
     int32_t code = perform(shared, &operation);
     if (!operation.moved.full) return code;
-    if (code == WZ_DONE) return wz_copy_out(&operation.moved, out, room, count);
-    wz_drop_bytes(&operation.moved);
+    if (code == WZ_DONE) return copy_moved_out(&operation);
+    drop_moved(&operation);
     return code;
 }
 

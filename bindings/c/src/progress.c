@@ -17,6 +17,11 @@ struct helper {
     pthread_t thread;
 };
 
+uint32_t count_processors(void) {
+    cpu_set_t set;
+    return sched_getaffinity(0, sizeof set, &set) == 0 ? (uint32_t)CPU_COUNT(&set) : 1;
+}
+
 struct helper *allocate_helpers(void) { return calloc(MOST_PROGRESS, sizeof(struct helper)); }
 
 uint32_t count_records(struct wz_combiner *combiner) { return combiner->ranks + 1 + (uint32_t)load(&combiner->helpers); }
@@ -27,30 +32,23 @@ bool is_helper(const struct wz_combiner *combiner, const struct record *record) 
 
 /* ---- the thread */
 
-/* How many processors there are for the process's threads; 1 where that isn't known. */
-static uint32_t count_processors(void) {
-    cpu_set_t set;
-    return sched_getaffinity(0, sizeof set, &set) == 0 ? (uint32_t)CPU_COUNT(&set) : 1;
-}
-
 /* How long the thread looks for more work before it sleeps, in nanoseconds: not at all where a rank may need its
    processor. */
-static int64_t linger(struct wz_combiner *combiner, uint32_t processors) {
-    return combiner->ranks + (uint32_t)load(&combiner->helpers) <= processors ? WZ_LINGER : 0;
+static int64_t linger(struct wz_combiner *combiner) {
+    return combiner->ranks + (uint32_t)load(&combiner->helpers) <= combiner->processors ? WZ_LINGER : 0;
 }
 
 static void *run(void *argument) {
     struct helper *helper = argument;
     struct wz_combiner *combiner = helper->combiner;
     struct record *me = helper->record;
-    uint32_t processors = count_processors();
     int64_t worked = nanoseconds();
     for (int look = 0; !is_over(me); look++) {
         if (needs_lock(me) && try_lock(combiner)) {
             combine(combiner, me);
             worked = nanoseconds();
             look = 0;
-        } else if (nanoseconds() - worked < linger(combiner, processors)) {
+        } else if (nanoseconds() - worked < linger(combiner)) {
             let_time_pass(me, look);
         } else {
             sleep_at(combiner, me);

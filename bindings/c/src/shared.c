@@ -28,6 +28,7 @@ static struct wz_combiner *allocate(const wz_limits *limits) {
     if (combiner == NULL) return NULL;
     combiner->ranks = limits->ranks;
     combiner->slots = limits->slots;
+    combiner->processors = count_processors();
     combiner->generations = calloc(limits->slots, sizeof *combiner->generations);
     combiner->buffers = calloc(limits->slots, sizeof *combiner->buffers);
     size_t records = limits->ranks + 1 + MOST_PROGRESS;
