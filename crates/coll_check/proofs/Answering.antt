@@ -8,10 +8,10 @@ use Rattle.coll_script.specs.Meaning.{meaning, HasMeaning}
 use Rattle.coll_script.specs.Plain.{IsFaultOf}
 use Rattle.coll_script.proofs.Answering.{meaning-read, HasMeaning-read}
 use Rattle.coll_diagnosis.specs.Verdicts.{IsStatus}
-use Rattle.coll_diagnosis.proofs.Meaning.{true-read}
 use Rattle.coll_check.specs.declared.checking.CheckForm.{CheckForm}
 use Rattle.coll_check.specs.Checked.{IsCheckStatus, IsCheckFaultOf, IsCheckFault}
 use Rattle.coll_check.specs.Says.{Says, ReportsFault, ReportsNone, explained_as}
+use Rattle.coll_witness.proofs.Saying.{true-read}
 
 -- a text with a fault is reported with status 2
 pub IsCheckStatus-fault : (text : List ℕ) (fault : Fault) (status : ℕ) → status ≡ 2 → meaning text ≡ Err fault → IsCheckStatus text status

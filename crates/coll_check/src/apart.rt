@@ -11,6 +11,10 @@ use std::alloc::{AllocError, Global};
 /// deadlocks, such as messages.
 const MARK: &str = "# by themselves: ";
 
+/// What is said of such a text.
+const NOTE: &str =
+    "more of the program isn't in this text: what follows is said of its collectives by themselves";
+
 /// Whether a line of a text says so. Linear in the text.
 pub fn is_apart(text: &[u8]) -> bool {
     text.split(|byte| *byte == b'\n')
@@ -31,10 +35,7 @@ pub(crate) fn apart_note(
     }
     match form {
         CheckForm::Text { .. } => apart_line(alloc, name),
-        CheckForm::Json => String::from_str(
-            alloc,
-            "{\"reason\":\"note\",\"message\":\"more of the program isn't in this text: what follows is said of its collectives by themselves\"}\n",
-        ),
+        CheckForm::Json => { format!(in alloc; "{{\"reason\":\"note\",\"message\":\"{NOTE}\"}}\n") }
     }
 }
 
@@ -42,7 +43,5 @@ pub(crate) fn apart_note(
 pub fn apart_line(alloc: Global, name: &str) -> Result<String, AllocError>
     ensures { IfOk result (λ note. string_bytes note ≡ apart_line name.now) }
 {
-    format!(in alloc;
-        "{name}: note: more of the program isn't in this text: what follows is said of its collectives by themselves\n"
-    )
+    format!(in alloc; "{name}: note: {NOTE}\n")
 }

@@ -12,9 +12,10 @@ ghost use Rattle.coll_check.specs.Says.{Says, ReportsFault, ReportsNone, apart_n
 
 use crate::apart::{apart_note, is_apart};
 use crate::reporting::{checked_object, faults_report};
-use coll_diagnosis::{ExplainOptions, Form, explain_text};
+use coll_diagnosis::{ExplainOptions, Form};
 use coll_faults::Faults;
 use coll_script::{CountedReader, JobFault, Witnessed, read_text, write_lines};
+use coll_witness::{DEPTH, explain_text};
 use std::alloc::{AllocError, Global};
 use std::io::{Read, Write};
 
@@ -146,7 +147,7 @@ fn faultless(
     ensures faults { IfErr result (IsFaultOf text.now) }
     ensures unstalled { IfErr result IsNoStall }
 {
-    let explained = explain_text(alloc, name, explained_as(form), text)?;
+    let explained = explain_text(alloc, name, explained_as(form), DEPTH, text)?;
     let head = faultless_head(alloc, name, form, explained.status)?;
     match noted(
         alloc,

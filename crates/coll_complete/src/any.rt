@@ -44,10 +44,7 @@ pub fn test_any_on<C: Requests>(
     ensures completes { IfOk result (λ any. C.Did core.old own.old (completion_any rank requests.old any) core.new own.new) }
     ensures requests { IfOk result (λ any. requests.new ≡ left_at (C.machine core.old) (position_of any) requests.old) }
 {
-    let survey = match Survey::of(core, rank, requests) {
-        Ok(survey) => survey,
-        Err(why) => return Err(why),
-    };
+    let survey = Survey::of(core, rank, requests)?;
     match survey.done {
         Some(position) => {
             let outcome = complete(core, own, rank, &mut requests[position]);

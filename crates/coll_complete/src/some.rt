@@ -39,10 +39,7 @@ pub fn test_some_on<C: Requests>(
         (CompletesBy rank requests.old (C.machine core.old) (λ es. C.Did core.old own.old es core.new own.new)))) }
     ensures requests { IfOk result (λ count. OnSome count (requests.new ≡ map (left_of (C.machine core.old)) requests.old)) }
 {
-    let survey = match Survey::of(core, rank, requests) {
-        Ok(survey) => survey,
-        Err(why) => return Err(why),
-    };
+    let survey = Survey::of(core, rank, requests)?;
     if !survey.active {
         return Ok(None);
     }

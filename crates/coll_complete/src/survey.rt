@@ -55,10 +55,7 @@ impl Survey {
             pending: false,
         };
         for (position, request) in requests.iter().enumerate() {
-            match phase(core, rank, request) {
-                Ok(phase) => survey.add(position, phase),
-                Err(why) => return Err(why),
-            }
+            survey.add(position, phase(core, rank, request)?);
         }
         Ok(survey)
     }

@@ -10,11 +10,13 @@ use coll_kinds::{MAX_RANKS, Refusal, Signature};
 use coll_verdict::HeardRows;
 use std::alloc::Global;
 
-/// The table of each of these collectives, in their order. The cost is that of [`heard`] for each.
-pub(crate) fn tables_of(
-    alloc: Global,
-    collectives: &[Collective],
-) -> Result<Vec<HeardRows>, Refusal>
+/// The table of each of these collectives, in their order. For each the cost is linear in its members and in the actions of all their
+/// schedules.
+///
+/// # Errors
+///
+/// `NoMemory`, and what `plan` of `coll_plans` refuses.
+pub fn tables_of(alloc: Global, collectives: &[Collective]) -> Result<Vec<HeardRows>, Refusal>
     ensures { IfOk result (λ tables. AreAllTrue hears_here tables.items) }
 {
     let mut tables = Vec::new(alloc);

@@ -6,13 +6,15 @@ ghost use Rattle.std.specs.String.{string_bytes};
 ghost use Rattle.coll_script.specs.Meaning.{HasMeaning};
 ghost use Rattle.coll_script.specs.Plain.{HasCause, IsFaultOf, IsInputFault};
 ghost use Rattle.coll_diagnosis.specs.Unstalled.{IsNoStall};
-ghost use Rattle.coll_diagnosis.specs.Details.{IsFoundOf};
-ghost use Rattle.coll_diagnosis.specs.Verdicts.{Begins, EndsExplained, EndsTelling, IsStatus, IsTrueOf, MeansOf, Says, heading};
+ghost use Rattle.coll_diagnosis.specs.Details.{IsFound, IsFoundOf};
+ghost use Rattle.coll_diagnosis.specs.Verdicts.{Begins, EndsExplained, EndsTelling, IsStatus, IsTrueOf, Means, MeansOf, Says, heading};
 
 use crate::dot_form::dot_form;
 use crate::explanation::Explanation;
+use crate::job::Job;
 use crate::json_form::json_form;
 use crate::text_form::text_form;
+use crate::verdict::Verdict;
 use coll_kinds::Refusal;
 use coll_script::{CountedReader, JobFault, Script, Witnessed, read_text, write_lines};
 use std::alloc::Global;
@@ -82,12 +84,13 @@ pub fn explain_job<R: Read, W: Write>(
     ensures unwritten { IfErr result (λ fault. fault ≢ JobFault.Write → Keeps (W.contents writer.old.stream.now) (W.contents writer.new.stream.now)) }
 {
     let text = read_text(alloc, reader)?;
-    let explained = explain_text(alloc, name, options, &text)?;
+    let explained = explain_text(alloc, name, options, true, &text)?;
     write_lines(writer, explained.lines.as_str().as_bytes())?;
     Ok(explained.status)
 }
 
-/// The explanation of the text that has this name, as it is written.
+/// The explanation of the text that has this name, as it is written. Without a repair unless `seeks_repair`, because each one that is tried
+/// is a text to be read and judged.
 ///
 /// # Errors
 ///
@@ -97,6 +100,7 @@ pub fn explain_text(
     alloc: Global,
     name: &str,
     options: ExplainOptions,
+    seeks_repair: bool,
     text: &[u8],
 ) -> Result<ExplainedText, JobFault>
     ensures meaning { OnOk result (HasMeaning text.now) }
@@ -107,14 +111,40 @@ pub fn explain_text(
     ensures faults { IfErr result (IsFaultOf text.now) }
     ensures unstalled { IfErr result IsNoStall }
 {
-    let explanation = explained(alloc, text)?;
+    let explanation = explained(alloc, text, seeks_repair)?;
+    let status = explanation.verdict.status(options.is_strict);
+    let lines = written(alloc, name, options, text, &explanation, status)?;
+    Ok(ExplainedText { lines, status })
+}
+
+/// The explanation of a text under a verdict that is true of it, as it is written, without a repair.
+///
+/// # Errors
+///
+/// Those of [`explain_text`].
+pub fn explain_as(
+    alloc: Global,
+    name: &str,
+    options: ExplainOptions,
+    verdict: Verdict,
+    text: &[u8],
+) -> Result<ExplainedText, JobFault>
+    requires { MeansOf text.now verdict }
+    ensures meaning { OnOk result (HasMeaning text.now) }
+    ensures status { IfOk result (λ explained. IsStatus explained.status) }
+    ensures said { IfOk result (λ explained. Says options explained.status (string_bytes explained.lines)) }
+    ensures verdict { IfOk result (λ explained. IsTrueOf text.now options explained.status (string_bytes explained.lines)) }
+    ensures faults { IfErr result (IsFaultOf text.now) }
+    ensures unstalled { IfErr result IsNoStall }
+{
+    let explanation = explained_under(alloc, text, verdict)?;
     let status = explanation.verdict.status(options.is_strict);
     let lines = written(alloc, name, options, text, &explanation, status)?;
     Ok(ExplainedText { lines, status })
 }
 
 /// The explanation of a text.
-fn explained(alloc: Global, text: &[u8]) -> Result<Explanation, JobFault>
+fn explained(alloc: Global, text: &[u8], seeks_repair: bool) -> Result<Explanation, JobFault>
     ensures meaning { OnOk result (HasMeaning text.now) }
     ensures means { IfOk result (λ explanation. MeansOf text.now explanation.verdict) }
     ensures found { IfOk result (λ explanation. IsFoundOf text.now explanation.verdict explanation.shown explanation.cure) }
@@ -122,12 +152,45 @@ fn explained(alloc: Global, text: &[u8]) -> Result<Explanation, JobFault>
     ensures unstalled { IfErr result IsNoStall }
 {
     let script = Script::read(alloc, text)?;
-    match Explanation::of(alloc, text, &script) {
+    match Explanation::of(alloc, text, &script, seeks_repair) {
         Ok(explanation) => Ok(explanation),
         Err(Refusal::NoMemory) => Err(JobFault::Memory),
         Err(Refusal::Torn) => Err(JobFault::Torn),
         Err(why) => Err(JobFault::Refused(why)),
     }
+}
+
+/// The explanation of a text under a verdict that is true of it.
+fn explained_under(alloc: Global, text: &[u8], verdict: Verdict) -> Result<Explanation, JobFault>
+    requires { MeansOf text.now verdict }
+    ensures meaning { OnOk result (HasMeaning text.now) }
+    ensures same { IfOk result (λ explanation. explanation.verdict ≡ verdict) }
+    ensures found { IfOk result (λ explanation. IsFoundOf text.now explanation.verdict explanation.shown explanation.cure) }
+    ensures faults { IfErr result (IsFaultOf text.now) }
+    ensures unstalled { IfErr result IsNoStall }
+{
+    let script = Script::read(alloc, text)?;
+    match under(alloc, text, &script, verdict) {
+        Ok(explanation) => Ok(explanation),
+        Err(Refusal::NoMemory) => Err(JobFault::Memory),
+        Err(Refusal::Torn) => Err(JobFault::Torn),
+        Err(why) => Err(JobFault::Refused(why)),
+    }
+}
+
+fn under(
+    alloc: Global,
+    text: &[u8],
+    script: &Script,
+    verdict: Verdict,
+) -> Result<Explanation, Refusal>
+    requires { Means verdict script.now }
+    ensures same { IfOk result (λ explanation. explanation.verdict ≡ verdict) }
+    ensures found { IfOk result (λ e. IsFound script.now text.now e.verdict e.shown e.cure) }
+{
+    let job = Job::of(alloc, script)?;
+    let explanation = Explanation::under(alloc, text, script, &job, verdict, false)?;
+    Ok(explanation)
 }
 
 /// The explanation in that form. The only fault is [`JobFault::Memory`].

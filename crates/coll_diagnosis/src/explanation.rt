@@ -45,12 +45,18 @@ impl Explanation {
     ghost use Rattle.coll_diagnosis.specs.Standing.{IsShown};
     ghost use Rattle.coll_diagnosis.specs.Verdicts.{is_always_here, Means};
 
-    /// Judges a text without a fault. It searches no runs: each course lets all ranks go on while they can.
+    /// Judges a text without a fault. It searches no runs: each course lets all ranks go on while they can. A repair is tried only if
+    /// `seeks_repair`.
     ///
     /// # Errors
     ///
     /// `NoMemory`; `Torn` if a deadlock that it found isn't true of the script, which doesn't happen.
-    pub fn of(alloc: Global, text: &[u8], script: &Script) -> Result<Explanation, Refusal>
+    pub fn of(
+        alloc: Global,
+        text: &[u8],
+        script: &Script,
+        seeks_repair: bool,
+    ) -> Result<Explanation, Refusal>
         // What is shown is true of the commands of the text.
         ensures shown { IfOk result (λ e. IfSome e.shown (IsShown script.now)) }
         // Completions wait there for those for whom they wait by the verdict.
@@ -65,15 +71,37 @@ impl Explanation {
     {
         let job = Job::of(alloc, script)?;
         let verdict = Verdict::of(alloc, script, &job)?;
+        Explanation::under(alloc, text, script, &job, verdict, seeks_repair)
+    }
+
+    /// The explanation of the same text under a verdict that is true of it.
+    pub(crate) fn under(
+        alloc: Global,
+        text: &[u8],
+        script: &Script,
+        job: &Job,
+        verdict: Verdict,
+        seeks_repair: bool,
+    ) -> Result<Explanation, Refusal>
+        requires { Means verdict script.now }
+        ensures verdict { IfOk result (λ e. e.verdict ≡ verdict) }
+        ensures shown { IfOk result (λ e. IfSome e.shown (IsShown script.now)) }
+        ensures reading { IfOk result (λ e. IfSome e.shown (λ shown. shown.waiting ≡ waiting_of e.verdict)) }
+        ensures means { IfOk result (λ e. Means e.verdict script.now) }
+        ensures never { IfOk result (λ e. e.verdict ≡ Never → e.shown ≡ None) }
+        ensures standing { IfOk result (λ e. is_always_here e.verdict ≡ true → IsSome e.shown) }
+        ensures cure { IfOk result (λ e. IfSome e.cure (IsTried text.now)) }
+        ensures uncured { IfOk result (λ e. is_always_here e.verdict ≡ false → e.cure ≡ None) }
+    {
         let shown = match verdict {
             Verdict::Never => None,
-            Verdict::NeverHere => stall_among(alloc, script, &job, Reading::All)?,
-            Verdict::Perhaps => stall_by_schedules(alloc, script, &job)?,
-            Verdict::AlwaysHere | Verdict::Always => Some(stall_here(alloc, script, &job)?),
+            Verdict::NeverHere => stall_among(alloc, script, job, Reading::All)?,
+            Verdict::Perhaps => stall_by_schedules(alloc, script, job)?,
+            Verdict::AlwaysHere | Verdict::Always => Some(stall_here(alloc, script, job)?),
         };
         let cure = match &shown {
-            Some(shown) if verdict.is_always_here() => {
-                cure(alloc, &job, text, &shown.standstill)?
+            Some(shown) if seeks_repair && verdict.is_always_here() => {
+                cure(alloc, job, text, &shown.standstill)?
             }
             _ => None,
         };

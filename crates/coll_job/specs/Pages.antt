@@ -2,7 +2,6 @@
 use denote.Ref.{Bor}
 use Rattle.std.specs.Prelude.{◌≡◌, ◌||◌, ℕ, [], ◌∷◌, Bool, List, Option, Some, None, is_some, map}
 use Rattle.std.specs.Option.{option_copied, option_map}
-use Rattle.coll_diagnosis.specs.Verdicts as verdicts
 use Rattle.coll_page.specs.Pages.{page_text}
 use Rattle.coll_report.specs.Reports.{Closed}
 use Rattle.coll_report.specs.declared.span.Span.{Span}
@@ -11,6 +10,7 @@ use Rattle.coll_views.specs.Lines.{outcomes_json, trace_text}
 use Rattle.coll_views.specs.Requests.{all_requests}
 use Rattle.coll_views.specs.Rows.{rows_of}
 use Rattle.coll_views.specs.Tables.{tables_text}
+use Rattle.coll_witness.specs.Findings as findings
 use Rattle.coll_job.specs.declared.pages.TheConstants.{RUN, AS_OBJECTS}
 use Rattle.coll_job.specs.declared.viewing.ViewFile.{ViewFile}
 use Rattle.coll_job.specs.declared.views.OutcomeForm.{OutcomeForm}
@@ -54,7 +54,7 @@ IsRunPage file r bytes = (timeline : List ℕ) × (bytes ≡ page_text RUN.now f
 -- the page on whether and why the runs of a text deadlock: an explanation in objects of JSON, whose verdict is true of the text
 abbrev pub IsExplainedPage : List ℕ → List ℕ → List ℕ → List ℕ → Type 0
 IsExplainedPage program file text bytes =
-    (status : ℕ) × (lines : List ℕ) × (bytes ≡ page_text program file [] [] lines) × verdicts.IsTrueOf text AS_OBJECTS status lines
+    (status : ℕ) × (lines : List ℕ) × (bytes ≡ page_text program file [] [] lines) × findings.IsTrueOf text AS_OBJECTS status lines
 
 -- the name of a file, and what it gets
 abbrev pub named_text : ViewFile → List ℕ × List ℕ

@@ -6,12 +6,12 @@ use Rattle.clap.specs.declared.error.kind.ErrorKind.{ErrorKind}
 use Rattle.clap.specs.declared.error.kind.ErrorKind.TheVariants.{DisplayHelp, DisplayVersion, OutOfMemory}
 use Rattle.coll_script.specs.Meaning.{meaning}
 use Rattle.coll_script.specs.Plain.{WritesMeaning}
-use Rattle.coll_diagnosis.specs.Verdicts as verdicts
 use Rattle.coll_diagnosis.specs.declared.explaining.ExplainOptions.{ExplainOptions}
 use Rattle.coll_check.specs.Checked.{WritesLines}
 use Rattle.coll_check.specs.Says as checks
 use Rattle.coll_check.specs.declared.checking.CheckForm.{CheckForm}
 use Rattle.coll_check.specs.declared.checking.CheckForm.TheVariants.{Text, Json}
+use Rattle.coll_witness.specs.Findings as findings
 use Rattle.coll_job.specs.declared.task.Way.{Way}
 use Rattle.coll_job.specs.declared.task.Way.TheVariants.{Plain, Run, Explain, Check, Draw, DrawRun}
 
@@ -61,14 +61,14 @@ is_answer (DrawRun workers file) status = false
 
 -- the status of an explanation: 1 if the file of its page can't be written
 abbrev pub IsExplainStatus : ℕ → Type 0
-IsExplainStatus status = (status ≡ 1) ⊎ verdicts.IsStatus status
+IsExplainStatus status = (status ≡ 1) ⊎ findings.IsStatus status
 
 -- what is written where a text is explained with that status
 abbrev pub IsExplanation : ExplainOptions → ℕ → Option (List ℕ) → Option (List ℕ) → Option (List ℕ) → Type 0
 IsExplanation options status input old new =
     status ≢ 1
     → (lines : List ℕ)
-    × MatchOption input (verdicts.Says options status lines) (λ text. verdicts.IsTrueOf text options status lines)
+    × MatchOption input (findings.Says options status lines) (λ text. findings.IsTrueOf text options status lines)
     × Appends old new lines
 
 -- what is written where a task is answered with that status: the text's meaning; what an explanation says that has the status, and whose

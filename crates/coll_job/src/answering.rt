@@ -1,11 +1,10 @@
 //! Answers a text: what a task asks for of a text is written.
 
-ghost use Rattle.std.specs.Prelude.{◌≡◌, ◌≤◌, ◌+◌, ◌||◌, Some, false, true, IfOk, IfErr, IfSome, take};
-ghost use Rattle.std.specs.Io.KnownBytes.{Keeps};
+ghost use Rattle.std.specs.Prelude.{◌≡◌, ◌≤◌, ◌+◌, ◌||◌, Some, false, IfOk, IfErr, IfSome, take};
 ghost use Rattle.coll_kinds.specs.Limits.{max_text};
-ghost use Rattle.coll_script.specs.Faults.{status_of};
 ghost use Rattle.coll_script.specs.Plain.{HasCause, IsReadFault};
-ghost use Rattle.coll_job.specs.Tasks.{workers_of, may_write, is_answer, name_of, AnswersText, IsAnswer, IsJudged, IsStatusOf};
+ghost use Rattle.coll_job.specs.Endings.{EndsTask, status_in};
+ghost use Rattle.coll_job.specs.Tasks.{workers_of, name_of, AnswersText, IsAnswer, IsJudged};
 
 use crate::carrying_out::{draw_run, run_text};
 use crate::drawing::draw;
@@ -41,19 +40,12 @@ pub(crate) fn answer_file<
     errors: &mut Witnessed<'_, E>,
 ) -> Result<u8, JobFault>
     requires workers { workers_of task.way ≤ 8 }
-    ensures status { IfOk result (IsStatusOf task.entry.way) }
-    ensures status_fault { IfErr result (λ fault. IsStatusOf task.entry.way (status_of fault)) }
-    // The answer to the text that was read was written, and no fault has the status of an answer.
+    ensures ends { EndsTask task.entry.way result host.new.failed host.new.failed (output.new.failed || errors.new.failed)
+        (W.contents output.old.stream.now) (W.contents output.new.stream.now) }
+    // The answer to the text that was read was written.
     ensures answered { IfOk result (λ status. AnswersText task.entry.way (name_of task.entry.file) status
         (W.contents output.old.stream.now) (W.contents output.new.stream.now) (E.contents errors.old.stream.now) (E.contents errors.new.stream.now)) }
-    ensures unanswered { IfErr result (λ fault. is_answer task.entry.way (status_of fault) ≡ false) }
-    ensures cause { IfOk result (λ status. status ≡ 1 → host.new.failed ≡ true) }
-    ensures cause_fault { IfErr result (λ fault. HasCause fault host.new.failed (output.new.failed || errors.new.failed)) }
     ensures same_output { output.new.stream.ghost_name ≡ output.old.stream.ghost_name }
-    ensures unwritten { IfOk result
-        (λ status. may_write task.entry.way status ≡ false → Keeps (W.contents output.old.stream.now) (W.contents output.new.stream.now)) }
-    ensures unwritten_fault { IfErr result
-        (λ fault. may_write task.entry.way (status_of fault) ≡ false → Keeps (W.contents output.old.stream.now) (W.contents output.new.stream.now)) }
 {
     match host.open(name) {
         Ok(file) => match read_file(host, alloc, file) {
@@ -107,18 +99,11 @@ fn answer_text<M: Threads + Wait + Sync + Files + Clock, S: Screen + Sync, W: Wr
     errors: &mut Witnessed<'_, E>,
 ) -> Result<u8, JobFault>
     requires workers { workers_of task.way ≤ 8 }
-    ensures status { IfOk result (IsStatusOf task.entry.way) }
-    ensures status_fault { IfErr result (λ fault. IsStatusOf task.entry.way (status_of fault)) }
+    ensures ends { EndsTask task.entry.way result host.new.failed host.new.failed (output.new.failed || errors.new.failed)
+        (W.contents output.old.stream.now) (W.contents output.new.stream.now) }
     ensures answered { IfOk result (λ status. IsAnswer task.entry.way (name_of task.entry.file) status (Some text.now)
         (W.contents output.old.stream.now) (W.contents output.new.stream.now) (E.contents errors.old.stream.now) (E.contents errors.new.stream.now)) }
-    ensures unanswered { IfErr result (λ fault. is_answer task.entry.way (status_of fault) ≡ false) }
-    ensures cause { IfOk result (λ status. status ≡ 1 → host.new.failed ≡ true) }
-    ensures cause_fault { IfErr result (λ fault. HasCause fault host.new.failed (output.new.failed || errors.new.failed)) }
     ensures same_output { output.new.stream.ghost_name ≡ output.old.stream.ghost_name }
-    ensures unwritten { IfOk result
-        (λ status. may_write task.entry.way status ≡ false → Keeps (W.contents output.old.stream.now) (W.contents output.new.stream.now)) }
-    ensures unwritten_fault { IfErr result
-        (λ fault. may_write task.entry.way (status_of fault) ≡ false → Keeps (W.contents output.old.stream.now) (W.contents output.new.stream.now)) }
 {
     let mut bytes = text;
     let mut reader = CountedReader::new(&mut bytes);
@@ -145,23 +130,15 @@ pub(crate) fn write_answer<
 ) -> Result<u8, JobFault>
     requires unread { reader.old.reads ≡ 0 }
     requires workers { workers_of task.way ≤ 8 }
-    ensures status { IfOk result (IsStatusOf task.entry.way) }
-    ensures status_fault { IfErr result (λ fault. IsStatusOf task.entry.way (status_of fault)) }
-    ensures judged { IfOk result (IsJudged task.entry.way (R.remaining reader.old.reader.now)) }
-    ensures judged_fault { IfErr result (λ fault. IsJudged task.entry.way (R.remaining reader.old.reader.now) (status_of fault)) }
-    // The answer was written, and no fault has the status of an answer.
+    ensures ends { EndsTask task.entry.way result host.new.failed reader.new.failed (output.new.failed || errors.new.failed)
+        (W.contents output.old.stream.now) (W.contents output.new.stream.now) }
+    ensures judged { IsJudged task.entry.way (R.remaining reader.old.reader.now) (status_in result) }
+    // The answer was written.
     ensures answered { IfOk result (λ status.
         IsAnswer task.entry.way (name_of task.entry.file) status (R.remaining reader.old.reader.now)
         (W.contents output.old.stream.now) (W.contents output.new.stream.now)
         (E.contents errors.old.stream.now) (E.contents errors.new.stream.now)) }
-    ensures unanswered { IfErr result (λ fault. is_answer task.entry.way (status_of fault) ≡ false) }
-    ensures cause { IfOk result (λ status. status ≡ 1 → host.new.failed ≡ true) }
-    ensures cause_fault { IfErr result (λ fault. HasCause fault reader.new.failed (output.new.failed || errors.new.failed)) }
     ensures same_output { output.new.stream.ghost_name ≡ output.old.stream.ghost_name }
-    ensures unwritten { IfOk result
-        (λ status. may_write task.entry.way status ≡ false → Keeps (W.contents output.old.stream.now) (W.contents output.new.stream.now)) }
-    ensures unwritten_fault { IfErr result
-        (λ fault. may_write task.entry.way (status_of fault) ≡ false → Keeps (W.contents output.old.stream.now) (W.contents output.new.stream.now)) }
 {
     let name = name_of(task.file);
     match task.way {

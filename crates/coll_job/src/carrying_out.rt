@@ -1,10 +1,9 @@
 //! Runs a job text by threads, and writes what is reported of the run.
 
-ghost use Rattle.std.specs.Prelude.{◌≡◌, ◌≢◌, ◌<◌, ◌≤◌, true, false, IfOk, IfErr, IfSome, Ok};
-ghost use Rattle.std.specs.Io.KnownBytes.{Keeps};
-ghost use Rattle.coll_script.specs.Faults.{status_of};
+ghost use Rattle.std.specs.Prelude.{◌≡◌, ◌≤◌, false, IfOk, IfErr, IfSome, Ok};
 ghost use Rattle.coll_script.specs.Meaning.{meaning};
-ghost use Rattle.coll_script.specs.Plain.{HasCause, IsFaultOf, WritesMeaning};
+ghost use Rattle.coll_script.specs.Plain.{IsFaultOf, WritesMeaning};
+ghost use Rattle.coll_job.specs.Endings.{EndsWithin, status_in};
 ghost use Rattle.coll_job.specs.Tasks.{IsTextStatus};
 
 use crate::answering::name_of;
@@ -44,16 +43,12 @@ pub(crate) fn run_text<
 ) -> Result<u8, JobFault>
     requires unread { reader.old.reads ≡ 0 }
     requires workers { options.workers ≤ 8 }
-    ensures status { IfOk result (λ status. status ≤ 1) }
-    ensures judged { IfOk result (λ status. IfSome (R.remaining reader.old.reader.now) (λ input. IsTextStatus input status)) }
-    ensures judged_fault { IfErr result (λ fault. IfSome (R.remaining reader.old.reader.now) (λ input. IsTextStatus input (status_of fault))) }
+    ensures ends { EndsWithin 1 result host.new.failed reader.new.failed output.new.failed
+        (W.contents output.old.stream.now) (W.contents output.new.stream.now) }
+    ensures judged { IfSome (R.remaining reader.old.reader.now) (λ input. IsTextStatus input (status_in result)) }
     ensures answered { IfOk result (λ status. status ≡ 0 → IfSome (R.remaining reader.old.reader.now)
         (λ input. WritesMeaning input (W.contents output.old.stream.now) (W.contents output.new.stream.now))) }
-    ensures cause { IfOk result (λ status. status ≡ 1 → host.new.failed ≡ true) }
-    ensures cause_fault { IfErr result (λ fault. HasCause fault reader.new.failed output.new.failed) }
     ensures same_output { output.new.stream.ghost_name ≡ output.old.stream.ghost_name }
-    ensures unwritten { IfOk result (λ status. 1 < status → Keeps (W.contents output.old.stream.now) (W.contents output.new.stream.now)) }
-    ensures unwritten_fault { IfErr result (λ fault. fault ≢ JobFault.Write → Keeps (W.contents output.old.stream.now) (W.contents output.new.stream.now)) }
 {
     let is_shown = !options.is_quiet && screen.is_watched();
     if !is_shown && !options.views.are_wanted() && options.explanation.is_none() {
@@ -79,15 +74,10 @@ fn run_recorded<M: Threads + Wait + Sync + Files + Clock, S: Screen + Sync, W: W
     errors: &mut E,
 ) -> Result<u8, JobFault>
     requires { options.workers ≤ 8 }
-    ensures status { IfOk result (λ status. status ≤ 1) }
-    ensures judged { IfOk result (IsTextStatus text.now) }
-    ensures judged_fault { IfErr result (λ fault. IsTextStatus text.now (status_of fault)) }
+    ensures ends { EndsWithin 1 result host.new.failed false output.new.failed (W.contents output.old.stream.now) (W.contents output.new.stream.now) }
+    ensures judged { IsTextStatus text.now (status_in result) }
     ensures answered { IfOk result (λ status. status ≡ 0 → WritesMeaning text.now (W.contents output.old.stream.now) (W.contents output.new.stream.now)) }
-    ensures cause { IfOk result (λ status. status ≡ 1 → host.new.failed ≡ true) }
-    ensures cause_fault { IfErr result (λ fault. HasCause fault false output.new.failed) }
     ensures same_output { output.new.stream.ghost_name ≡ output.old.stream.ghost_name }
-    ensures unwritten { IfOk result (λ status. 1 < status → Keeps (W.contents output.old.stream.now) (W.contents output.new.stream.now)) }
-    ensures unwritten_fault { IfErr result (λ fault. fault ≢ JobFault.Write → Keeps (W.contents output.old.stream.now) (W.contents output.new.stream.now)) }
 {
     let recorded = watched_job(host.machine, alloc, screen, is_shown, text, options.workers);
     if let Err(JobFault::Stalled) = &recorded {
@@ -160,14 +150,10 @@ pub(crate) fn draw_run<M: Threads + Wait + Sync + Files + Clock, R: Read, W: Wri
 ) -> Result<u8, JobFault>
     requires unread { reader.old.reads ≡ 0 }
     requires workers { workers ≤ 8 }
-    ensures status { IfOk result (λ status. status ≤ 1) }
-    ensures judged { IfOk result (λ status. IfSome (R.remaining reader.old.reader.now) (λ input. IsTextStatus input status)) }
-    ensures judged_fault { IfErr result (λ fault. IfSome (R.remaining reader.old.reader.now) (λ input. IsTextStatus input (status_of fault))) }
-    ensures cause { IfOk result (λ status. status ≡ 1 → host.new.failed ≡ true) }
-    ensures cause_fault { IfErr result (λ fault. HasCause fault reader.new.failed output.new.failed) }
+    ensures ends { EndsWithin 1 result host.new.failed reader.new.failed output.new.failed
+        (W.contents output.old.stream.now) (W.contents output.new.stream.now) }
+    ensures judged { IfSome (R.remaining reader.old.reader.now) (λ input. IsTextStatus input (status_in result)) }
     ensures same_output { output.new.stream.ghost_name ≡ output.old.stream.ghost_name }
-    ensures unwritten { IfOk result (λ status. 1 < status → Keeps (W.contents output.old.stream.now) (W.contents output.new.stream.now)) }
-    ensures unwritten_fault { IfErr result (λ fault. fault ≢ JobFault.Write → Keeps (W.contents output.old.stream.now) (W.contents output.new.stream.now)) }
 {
     let text = read_text(alloc, reader)?;
     draw_recorded(host, alloc, workers, file, &text, output, errors)
@@ -184,14 +170,9 @@ fn draw_recorded<M: Threads + Wait + Sync + Files + Clock, W: Write, E: Write>(
     errors: &mut E,
 ) -> Result<u8, JobFault>
     requires { workers ≤ 8 }
-    ensures status { IfOk result (λ status. status ≤ 1) }
-    ensures judged { IfOk result (IsTextStatus text.now) }
-    ensures judged_fault { IfErr result (λ fault. IsTextStatus text.now (status_of fault)) }
-    ensures cause { IfOk result (λ status. status ≡ 1 → host.new.failed ≡ true) }
-    ensures cause_fault { IfErr result (λ fault. HasCause fault false output.new.failed) }
+    ensures ends { EndsWithin 1 result host.new.failed false output.new.failed (W.contents output.old.stream.now) (W.contents output.new.stream.now) }
+    ensures judged { IsTextStatus text.now (status_in result) }
     ensures same_output { output.new.stream.ghost_name ≡ output.old.stream.ghost_name }
-    ensures unwritten { IfOk result (λ status. 1 < status → Keeps (W.contents output.old.stream.now) (W.contents output.new.stream.now)) }
-    ensures unwritten_fault { IfErr result (λ fault. fault ≢ JobFault.Write → Keeps (W.contents output.old.stream.now) (W.contents output.new.stream.now)) }
 {
     let recording = recorded_job(host.machine, alloc, text, workers, &NoWatch)?;
     let picture = picture_of(alloc, &recording)?;

@@ -9,6 +9,7 @@ use crate::words::{all_ranks, is_whole, task_on, text_file, workers_argument, wo
 use clap::builder::ValueParser;
 use clap::{Arg, ArgAction, ArgMatches, Command};
 use coll_diagnosis::{ExplainOptions, Form};
+use coll_witness::DEPTH;
 use std::alloc::{AllocError, Global};
 
 const SIGNATURE: &str = "signature";
@@ -137,6 +138,7 @@ fn waits_options<'w>(matches: &ArgMatches<'w>) -> Explaining<'w> {
     };
     Explaining {
         options,
+        depth: DEPTH,
         page: None,
     }
 }

@@ -1,8 +1,8 @@
 //! Draws the schedules of a collective.
 
-ghost use Rattle.std.specs.Prelude.{◌≡◌, ◌≢◌, ◌<◌, ◌≤◌, true, false, IfOk, IfErr};
-ghost use Rattle.std.specs.Io.KnownBytes.{Keeps};
+ghost use Rattle.std.specs.Prelude.{◌≡◌, ◌≢◌, false, IfErr};
 ghost use Rattle.coll_script.specs.Plain.{HasCause};
+ghost use Rattle.coll_job.specs.Endings.{EndsWithin};
 
 use crate::host::Host;
 use crate::keeping::put;
@@ -47,12 +47,8 @@ pub(crate) fn draw<F: Files, W: Write, E: Write>(
     output: &mut Witnessed<'_, W>,
     errors: &mut E,
 ) -> Result<u8, JobFault>
-    ensures status { IfOk result (λ status. status ≤ 2) }
-    ensures cause { IfOk result (λ status. status ≡ 1 → host.new.failed ≡ true) }
-    ensures cause_fault { IfErr result (λ fault. HasCause fault false output.new.failed) }
+    ensures ends { EndsWithin 2 result host.new.failed false output.new.failed (W.contents output.old.stream.now) (W.contents output.new.stream.now) }
     ensures same_output { output.new.stream.ghost_name ≡ output.old.stream.ghost_name }
-    ensures unwritten { IfOk result (λ status. 1 < status → Keeps (W.contents output.old.stream.now) (W.contents output.new.stream.now)) }
-    ensures unwritten_fault { IfErr result (λ fault. fault ≢ JobFault.Write → Keeps (W.contents output.old.stream.now) (W.contents output.new.stream.now)) }
 {
     let Some(lines) = drawn(alloc, draft, errors)? else {
         return Ok(BAD_WORDS);

@@ -1,7 +1,8 @@
 //! Writes a file whole or not at all.
 
-ghost use Rattle.std.specs.Prelude.{◌≡◌, ◌≢◌, ◌<◌, ◌≤◌, true, false, IfOk, IfErr, IfNone, OnErr, OnOk, IsOkUnless};
-ghost use Rattle.std.specs.Io.KnownBytes.{Appends, Keeps};
+ghost use Rattle.std.specs.Prelude.{◌≡◌, true, false, IfNone, OnOk, IsOkUnless};
+ghost use Rattle.std.specs.Io.KnownBytes.{Appends};
+ghost use Rattle.coll_job.specs.Endings.{EndsWithin};
 
 use crate::host::Host;
 use coll_script::{JobFault, Witnessed, write_lines};
@@ -26,15 +27,11 @@ pub(crate) fn put<F: Files, W: Write, E: Write>(
     output: &mut Witnessed<'_, W>,
     errors: &mut E,
 ) -> Result<u8, JobFault>
-    ensures status { IfOk result (λ status. status ≤ 1) }
+    // The status is 1 only if a file failed, and the result a write fault only if the output did.
+    ensures ends { EndsWithin 1 result host.new.failed false output.new.failed (W.contents output.old.stream.now) (W.contents output.new.stream.now) }
     // Without a file standard output gets the bytes, and nothing else.
     ensures written { IfNone file.entry (OnOk result (Appends (W.contents output.old.stream.now) (W.contents output.new.stream.now) bytes.now)) }
-    ensures unwritten { IfOk result (λ status. 1 < status → Keeps (W.contents output.old.stream.now) (W.contents output.new.stream.now)) }
-    ensures unwritten_fault { IfErr result (λ fault. fault ≢ JobFault.Write → Keeps (W.contents output.old.stream.now) (W.contents output.new.stream.now)) }
     ensures fault { IsOkUnless result JobFault.Write }
-    // The status is 1 only if a file failed, and the result a write fault only if the output did.
-    ensures cause { IfOk result (λ status. status ≡ 1 → host.new.failed ≡ true) }
-    ensures cause_fault { OnErr result (output.new.failed ≡ true) }
     ensures same_output { output.new.stream.ghost_name ≡ output.old.stream.ghost_name }
 {
     match file {

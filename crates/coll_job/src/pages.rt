@@ -13,11 +13,12 @@ use crate::keeping::{UNWRITTEN, is_kept};
 use crate::task::Explaining;
 use crate::viewing::stats_text;
 use coll_check::{apart_line, is_apart};
-use coll_diagnosis::{ExplainOptions, Form, explain_text};
+use coll_diagnosis::{ExplainOptions, Form};
 use coll_page::{PageTexts, page_text};
 use coll_run::Recording;
 use coll_script::{CountedReader, JobFault, ReportFault, Witnessed, read_text, write_lines};
 use coll_views::{RankRequests, timeline_json};
+use coll_witness::explain_text;
 use std::alloc::Global;
 use std::fs::Files;
 use std::io::{Read, Write};
@@ -63,22 +64,23 @@ pub(crate) fn run_page(
     Ok(page_text(alloc, &texts)?)
 }
 
-/// The page on whether and why a text deadlocks. The text is explained anew for it.
+/// The page on whether and why a text deadlocks. The text is explained anew for it, by a search through `depth` states at most.
 ///
 /// # Errors
 ///
-/// Those of `explain_text` of `coll_diagnosis`.
+/// Those of `explain_text` of `coll_witness`.
 pub(crate) fn explained_page(
     alloc: Global,
     program: &str,
     file: &str,
+    depth: u32,
     text: &[u8],
 ) -> Result<Vec<u8>, JobFault>
     ensures page { IfOk result (λ page. IsExplainedPage program.now file.now text.now page.items) }
     ensures faults { IfErr result (IsFaultOf text.now) }
     ensures unstalled { IfErr result IsNoStall }
 {
-    let explained = explain_text(alloc, file, AS_OBJECTS, text)?;
+    let explained = explain_text(alloc, file, AS_OBJECTS, depth, text)?;
     let texts = PageTexts {
         program,
         file,
@@ -142,9 +144,10 @@ fn explain_read<F: Files, W: Write, E: Write>(
     ensures same_output { output.new.stream.ghost_name ≡ output.old.stream.ghost_name }
     ensures unwritten_fault { IfErr result (λ fault. fault ≢ JobFault.Write → Keeps (W.contents output.old.stream.now) (W.contents output.new.stream.now)) }
 {
-    let explained = explain_text(alloc, name, explaining.options, text)?;
+    let depth = explaining.depth;
+    let explained = explain_text(alloc, name, explaining.options, depth, text)?;
     if let Some(page) = explaining.page {
-        let bytes = explained_page(alloc, EXPLAIN, name, text)?;
+        let bytes = explained_page(alloc, EXPLAIN, name, depth, text)?;
         if !is_kept(host, alloc, page, &bytes, errors) {
             return Ok(UNWRITTEN);
         }

@@ -9,8 +9,9 @@ use crate::keeping::is_kept;
 use crate::pages::{RUN, explained_page};
 use crate::task::RunOptions;
 use crate::tasks::told;
-use coll_diagnosis::{ExplainOptions, Form, explain_text};
+use coll_diagnosis::{ExplainOptions, Form};
 use coll_script::JobFault;
+use coll_witness::{DEPTH, explain_text};
 use std::alloc::Global;
 use std::fs::Files;
 use std::io::Write;
@@ -37,7 +38,7 @@ pub(crate) fn are_stall_files_kept<F: Files, E: Write>(
     ensures cause { IfOk result (λ kept. kept ≡ false → host.new.failed ≡ true) }
 {
     if let Some(explanation) = options.explanation {
-        let lines = explain_text(alloc, name_of(file), EXPLAINED, text)?.lines;
+        let lines = explain_text(alloc, name_of(file), EXPLAINED, DEPTH, text)?.lines;
         if !is_stall_file_kept(host, alloc, file, explanation, lines.as_bytes(), errors) {
             return Ok(false);
         }
@@ -45,7 +46,7 @@ pub(crate) fn are_stall_files_kept<F: Files, E: Write>(
     let Some(page) = options.views.page else {
         return Ok(true);
     };
-    let bytes = explained_page(alloc, RUN, name_of(file), text)?;
+    let bytes = explained_page(alloc, RUN, name_of(file), DEPTH, text)?;
     Ok(is_stall_file_kept(host, alloc, file, page, &bytes, errors))
 }
 

@@ -34,6 +34,8 @@ pub enum Way<'w> {
 #[derive(Clone, Copy, Debug, PartialEq, Eq)]
 pub struct Explaining<'w> {
     pub options: ExplainOptions,
+    /// How many states a search for a run that deadlocks looks at, at most.
+    pub depth: u32,
     /// The file that gets the page of the explanation, if one is wanted.
     pub page: Option<&'w str>,
 }

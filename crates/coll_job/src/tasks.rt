@@ -1,7 +1,8 @@
-ghost use Rattle.std.specs.Prelude.{◌≡◌, ◌≢◌, ◌<◌, ◌≤◌, ◌||◌, false, true, IfOk, IfErr, IfNone, IfSome, MatchResult, OnOk};
+ghost use Rattle.std.specs.Prelude.{◌≡◌, ◌≢◌, ◌<◌, ◌≤◌, ◌||◌, false, true, IfOk, IfErr, IfNone, IfSome, OnOk};
 ghost use Rattle.std.specs.Io.KnownBytes.{Keeps};
 ghost use Rattle.clap.specs.Words.{kind_of};
 ghost use Rattle.coll_script.specs.Faults.{status_of};
+ghost use Rattle.coll_job.specs.Endings.{status_in};
 ghost use Rattle.coll_job.specs.Tasks.{workers_of, may_write, name_of, AnswersText, IsAnswered, IsJudged, IsRefusal, IsStatusOf};
 
 use crate::answering::{answer_file, write_answer};
@@ -184,7 +185,7 @@ fn ended<E: Write>(
     written: Option<io::Error>,
     errors: &mut E,
 ) -> u8
-    ensures status { MatchResult answer (λ status. result ≡ status) (λ fault. result ≡ status_of fault) }
+    ensures status { result ≡ status_in answer }
     ensures untold { OnOk answer (E.contents errors.new ≡ E.contents errors.old) }
 {
     match answer {

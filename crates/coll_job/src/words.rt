@@ -11,6 +11,7 @@ use clap::builder::ValueParser;
 use clap::{Arg, ArgAction, ArgMatches, Command, Error};
 use coll_check::CheckForm;
 use coll_diagnosis::{ExplainOptions, Form};
+use coll_witness::DEPTH;
 use std::alloc::{AllocError, Global};
 
 const MAX_WORKERS: u8 = 8;
@@ -27,6 +28,8 @@ const FILE: &str = "file";
 const STRICT: &str = "strict";
 
 const ALL: &str = "all";
+
+const STATES: &str = "depth";
 
 const FORM: &str = "form";
 
@@ -135,6 +138,12 @@ fn explain_command<'a>(alloc: Global) -> Result<Command<'a>, AllocError> {
         .long("strict")
         .action(ArgAction::SetTrue)
         .help("Exit status 6 also if only runs with another MPI library may deadlock");
+    let depth = Arg::new(alloc, STATES)
+        .long(STATES)
+        .value_name("N")
+        .value_parser(ValueParser::unsigned(0, u64::from(u32::MAX)))
+        .default_value("200")
+        .help("How many states a search for a run that deadlocks looks at, at most");
     Command::new(alloc, "explain")
         .about(
             "Reports whether a job can deadlock, and shows the cycle: which rank waits in which line for whom",
@@ -145,6 +154,7 @@ fn explain_command<'a>(alloc: Global) -> Result<Command<'a>, AllocError> {
             "Whether text has colours; auto where standard output is a terminal and NO_COLOR isn't set",
         ))?
         .arg(strict)?
+        .arg(depth)?
         .arg(all_ranks(alloc))?
         .arg(page_argument(
             alloc,
@@ -220,8 +230,12 @@ pub fn task_of<'w>(
             is_whole: is_whole(explain),
             is_colored: is_colored(explain, colors.output),
         };
-        let page = explain.get_str(PAGE);
-        return Ok(task_on(Way::Explain(Explaining { options, page }), explain));
+        let explaining = Explaining {
+            options,
+            depth: explain.get_one::<u32>(STATES).unwrap_or(DEPTH),
+            page: explain.get_str(PAGE),
+        };
+        return Ok(task_on(Way::Explain(explaining), explain));
     }
     if let Some(check) = matches.subcommand_matches("check") {
         return Ok(task_on(Way::Check(check_form_of(check, colors.errors)), check));

@@ -4,12 +4,13 @@ use Rattle.std.proofs.Common.{Option, Some, None, zero, suc, replicate, arith}
 use Rattle.std.proofs.lemmas.Bool.{and_from, and_parts}
 use Rattle.std.specs.Prelude.{slice_get, option_map, is_some, is_none, ◌&&◌}
 use Rattle.std.specs.List.{list_all}
-use Rattle.std.proofs.lemmas.List.{length-map}
+use Rattle.std.specs.Option.{ForSome}
+use Rattle.std.proofs.lemmas.List.{length-map, length-set}
 use Rattle.std.proofs.lemmas.Option.{slice_get-map, slice_get_read, none-some}
 use Rattle.coll_kinds.specs.Puts.{put}
 use Rattle.coll_match.specs.declared.instance.Share.{Share}
 use Rattle.coll_sched.specs.Worlds.{put_mail}
-use Rattle.coll_match.specs.Held.{Held, Part, contribution_of, mail_in, put_sent, sent_in, sent_of, slot_of}
+use Rattle.coll_match.specs.Held.{HasJoined, Held, Part, contribution_of, given_in, joined_rows, mail_in, put_sent, sent_in, sent_of, slot_of}
 use Rattle.coll_match.specs.Views.{held_of, part_of}
 use Rattle.coll_match.proofs.Puts.{cond_map, put_own, slice_get-set}
 
@@ -98,6 +99,25 @@ emptied_all (suc n) (share ∷ shares) e = ap (λ rest. empty_share ∷ rest) (e
 -- a member's number is an index of the shares
 pub low_share : (shares : List Share) (v : Held) (member i : ℕ) → held_of shares ≡ v → member < length v.shares → i ≡ member → i < length shares
 low_share shares v member i e low is = omega (arith, low, is, ap (λ (h : Held). length h.shares) e, length-map shares part_of)
+
+-- ---- what all gave, joined
+
+-- while all rows stay, what was joined is what they are joined
+pub still_joined : (o : Option (List ℕ)) (h k : Held) → given_in k ≡ given_in h → length k.shares ≡ length h.shares
+    → ForSome o (HasJoined h) → ForSome o (HasJoined k)
+still_joined o h k gave long joined bytes is missing =
+    joined bytes is missing ∙ (λ z. joined_rows (sym gave z) missing (sym long z))
+
+pub share_joined : (o : Option (List ℕ)) (shares : List Share) (i : ℕ) (share old : Share) → i < length shares → old ≡ get_or shares i old
+    → share.given ≡ old.given → ForSome o (HasJoined (held_of shares)) → ForSome o (HasJoined (held_of (set shares i share)))
+share_joined o shares i share old low is same joined =
+    still_joined o (held_of shares) (held_of (set shares i share))
+    (parts_kept contribution_of shares i share low old is same)
+    (length-map (set shares i share) part_of ∙ (length-set shares i share ∙ sym (length-map shares part_of)))
+    joined
+
+pub none_joined : (o : Option (List ℕ)) (h : Held) → o ≡ None → ForSome o (HasJoined h)
+none_joined o h none bytes is = absurd (none-some bytes (sym none ∙ is))
 
 -- ---- a member's messages
 

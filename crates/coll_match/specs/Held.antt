@@ -1,6 +1,8 @@
 -- What stands of one instance.
-use Rattle.std.specs.Prelude.{◌≡◌, ◌==◌, ◌&&◌, ℕ, Bool, cond, List, length, slice_get, Option, Some, None}
+use Rattle.std.specs.Prelude.{◌≡◌, ◌==◌, ◌&&◌, ℕ, Bool, cond, List, length, map, slice_get, unwrap_or, Option, Some, None}
+use Rattle.std.specs.List.{range_with_len}
 use Rattle.std.specs.Map.{lookup}
+use Rattle.coll_ops.specs.Values.{all_rows}
 use Rattle.coll_machine.specs.Steps.{AllHaveLeft}
 use Rattle.coll_match.specs.declared.envelope.Envelope.{Envelope}
 
@@ -48,6 +50,14 @@ seat_in h member = slot_of (slice_get h.shares member)
 -- the message of a sender to a receiver for a round
 abbrev pub mail_in : Held → ℕ → ℕ → ℕ → Option (List ℕ)
 mail_in h from = sent_of (slice_get h.shares from)
+
+-- the rows that the members gave, one after the other; bytes of that member's choice for one that hasn't given
+abbrev pub joined_rows : (ℕ → Option (List ℕ)) → (ℕ → List ℕ) → ℕ → List ℕ
+joined_rows gave missing n = all_rows (map (λ m. unwrap_or (gave m) (missing m)) (range_with_len 0 n))
+
+-- the bytes are what all members gave, joined, so it doesn't matter what stands for one that hasn't given
+abbrev pub HasJoined : Held → List ℕ → Type 0
+HasJoined h bytes = (missing : ℕ → List ℕ) → bytes ≡ joined_rows (given_in h) missing (length h.shares)
 
 -- every member has given and has no active request
 abbrev pub IsOver : Held → Type 0

@@ -5,7 +5,7 @@ use Rattle.coll_kinds.specs.Puts.{put}
 use Rattle.coll_machine.specs.declared.key.Key.{Key}
 use Rattle.coll_machine.specs.Common.{put_in, put_key, same_key, AllHaveLeft}
 use Rattle.coll_sched.specs.Worlds.{put_mail}
-use Rattle.coll_match.specs.Held.{Held, given_in, mail_in, seat_in}
+use Rattle.coll_match.specs.Held.{HasJoined, Held, given_in, mail_in, seat_in}
 
 -- an entry is that instance's
 abbrev pub is_of : Key → Option (Key × Held) → Bool
@@ -31,6 +31,12 @@ seats_of (Some h) member = seat_in h member
 abbrev pub mail_of : Option Held → ℕ → ℕ → ℕ → Option (List ℕ)
 mail_of None from to round = None
 mail_of (Some h) from to round = mail_in h from to round
+
+-- the bytes are what all members gave to an instance that stands, joined
+pub record IsJoined (t : List (Key × Held)) (k : Key) (bytes : List ℕ) : Type 0 where
+  pub held : Held
+  pub stands : standing t k ≡ Some held
+  pub joined : HasJoined held bytes
 
 -- how many members have room to give to an instance, where it stands
 abbrev pub members : List (Key × Held) → Key → Option ℕ

@@ -1,11 +1,11 @@
 ghost use Rattle.std.specs.Prelude.{◌≡◌, ◌<◌, ◌&&◌, [], Some, None, length, is_some, is_none, IsTrue, ◌↔◌, IfOk, IfSome, OnOk, IfErr, OnErr, replicate};
 ghost use Rattle.std.specs.List.{list_all};
-ghost use Rattle.std.specs.Option.{option_copied};
+ghost use Rattle.std.specs.Option.{ForSome, option_copied};
 ghost use Rattle.coll_kinds.specs.declared.refusal.Refusal.TheVariants.{NoMemory};
 ghost use Rattle.coll_kinds.specs.declared.refusal.Refused.{Refused};
 ghost use Rattle.coll_kinds.specs.Puts.{put};
 ghost use Rattle.coll_sched.specs.Worlds.{put_mail};
-ghost use Rattle.coll_match.specs.Held.{IsOver, given_in, mail_in, seat_in};
+ghost use Rattle.coll_match.specs.Held.{HasJoined, IsOver, given_in, mail_in, seat_in};
 
 use crate::envelope::Envelope;
 use crate::mailbox::{Mailbox, Message};
@@ -34,6 +34,8 @@ pub(crate) struct SpareShares {
 #[derive(Debug, Drop)]
 pub(crate) struct Instance {
     shares: Vec<Share>,
+    /// What all members gave, joined in member order, if a member that left had put it together for its outcome.
+    joined: Option<Bytes>,
 }
 
 impl Model for Instance {
@@ -41,9 +43,13 @@ impl Model for Instance {
 
     ghost Value = { Held };
 
+    ghost use Rattle.std.specs.Option.{ForSome};
+    ghost use Rattle.coll_match.specs.Held.{HasJoined};
     ghost use Rattle.coll_match.specs.Views.{held_of};
 
     ghost view = { λ a. held_of a.shares.items };
+
+    ghost invariant = { λ a. ForSome a.joined (HasJoined (held_of a.shares.items)) };
 }
 
 /// Every member has given and has no active request.
@@ -107,6 +113,7 @@ impl SpareShares {
     {
         Instance {
             shares: self.shares,
+            joined: None,
         }
     }
 }
@@ -114,7 +121,8 @@ impl SpareShares {
 impl Instance {
     /// The shares, while all that they have goes. It takes no memory.
     pub(crate) fn into_spare(self) -> SpareShares {
-        let mut shares = self.shares;
+        let Instance { shares, joined: _ } = self;
+        let mut shares = shares;
         empty_all(&mut shares);
         SpareShares { shares }
     }
@@ -127,7 +135,10 @@ impl Instance {
         ensures mail { IfOk result (λ made. mail_in made ≡ (λ _ _ _. None)) }
     {
         let shares = empty_shares(alloc, members)?;
-        Ok(Instance { shares })
+        Ok(Instance {
+            shares,
+            joined: None,
+        })
     }
 
     /// Keeps what a member gives.
@@ -138,6 +149,7 @@ impl Instance {
         ensures seats { seat_in self.new ≡ seat_in self.old }
         ensures mail { mail_in self.new ≡ mail_in self.old }
     {
+        self.joined = None;
         self.shares[usize::from(member)].given = Some(bytes);
     }
 
@@ -155,6 +167,13 @@ impl Instance {
     {
         let share = self.shares.get(usize::from(member))?;
         share.given.as_ref()?.share_counted()
+    }
+
+    /// A further owner of what all members gave, joined in member order; none if no member that left had joined it. It takes no memory.
+    pub(crate) fn share_joined(&self) -> Option<Bytes>
+        ensures { IfSome result (λ bytes. HasJoined self.now bytes) }
+    {
+        self.joined.as_ref()?.share_counted()
     }
 
     /// Notes the slot of a member's active request.
@@ -175,15 +194,18 @@ impl Instance {
         self.shares.get(usize::from(member))?.slot
     }
 
-    /// Takes a member's note away. Returns whether every member has given and left.
-    pub(crate) fn leave(&mut self, member: u8) -> bool
-        requires { member < length self.old.shares }
+    /// Takes a member's note away, and keeps what all members gave, if the member had joined it. Returns whether every member has
+    /// given and left.
+    pub(crate) fn leave(&mut self, member: u8, joined: Option<Bytes>) -> bool
+        requires low { member < length self.old.shares }
+        requires joined { ForSome joined (HasJoined self.old) }
         ensures over { IsTrue result ↔ IsOver self.new }
         ensures members { length self.new.shares ≡ length self.old.shares }
         ensures given { given_in self.new ≡ given_in self.old }
         ensures seats { seat_in self.new ≡ put (seat_in self.old) member None }
         ensures mail { mail_in self.new ≡ mail_in self.old }
     {
+        self.joined = joined;
         self.shares[usize::from(member)].slot = None;
         all_have_left(&self.shares)
     }

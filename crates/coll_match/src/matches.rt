@@ -1,8 +1,8 @@
 ghost use Rattle.std.specs.Prelude.{◌≡◌, ◌<◌, ◌≢◌, length, Some, None, slice_get, is_some, IsTrue, ◌↔◌, OnOk, IfOk, IfSome, IfErr, OnErr};
-ghost use Rattle.std.specs.Option.{option_copied, option_copied_mut};
+ghost use Rattle.std.specs.Option.{ForSome, option_copied, option_copied_mut};
 ghost use Rattle.coll_kinds.specs.declared.refusal.Refused.{Refused};
-ghost use Rattle.coll_match.specs.Held.{given_in, mail_in, seat_in};
-ghost use Rattle.coll_match.specs.Instances.{IsLast, dissolved, given, is_of, joined, left, look_ups, mail, mailed, nothing, roomed, seated, seats};
+ghost use Rattle.coll_match.specs.Held.{HasJoined, given_in, mail_in, seat_in};
+ghost use Rattle.coll_match.specs.Instances.{IsJoined, IsLast, dissolved, given, is_of, joined, left, look_ups, mail, mailed, nothing, roomed, seated, seats};
 ghost use Rattle.coll_match.specs.Instances.{size, standing};
 
 use crate::envelope::Envelope;
@@ -122,6 +122,14 @@ impl Matches {
         self.at(key, hint)?.share_given(member)
     }
 
+    /// A further owner of what all members gave to an instance, joined in member order; none if no member that left had joined it. It
+    /// takes no memory.
+    pub fn share_joined(&self, key: Key, hint: usize) -> Option<Bytes>
+        ensures { IfSome result (IsJoined self.now key) }
+    {
+        self.at(key, hint)?.share_joined()
+    }
+
     /// Notes the slot of the active request of a member that has joined. It takes no memory.
     pub fn seat(&mut self, key: Key, hint: usize, member: u8, slot: u32)
         requires { given self.old key member ≢ None }
@@ -140,14 +148,16 @@ impl Matches {
         self.instances.get(&key)?.seated(member)
     }
 
-    /// A member whose slot is noted leaves: the note goes, what it gave stays. Where every member has now given and
-    /// left, the answer is true, and the instance goes with all that was given and every message. It takes no memory.
-    pub fn leave(&mut self, key: Key, hint: usize, member: u8) -> bool
-        requires { seats self.old key member ≢ None }
+    /// A member whose slot is noted leaves: the note goes, what it gave stays. `joined` is a further owner of what all members gave, if
+    /// the member had joined it; it is kept for those that leave later. Where every member has now given and left, the answer is true, and
+    /// the instance goes with all that was given and every message. It takes no memory.
+    pub fn leave(&mut self, key: Key, hint: usize, member: u8, joined: Option<Bytes>) -> bool
+        requires seated { seats self.old key member ≢ None }
+        requires joined { ForSome joined (λ bytes. ForSome (standing self.old key) (λ held. HasJoined held bytes)) }
         ensures last { IsTrue result ↔ IsLast self.old key member }
         ensures left { look_ups self.new ≡ left (look_ups self.old) key member result }
     {
-        let is_last = self.unseat(key, hint, member);
+        let is_last = self.unseat(key, hint, member, joined);
         if is_last {
             self.dissolve(key);
         }
@@ -155,13 +165,14 @@ impl Matches {
     }
 
     /// Takes a member's note away. Returns whether every member has now given and left.
-    fn unseat(&mut self, key: Key, hint: usize, member: u8) -> bool
-        requires { seats self.old key member ≢ None }
+    fn unseat(&mut self, key: Key, hint: usize, member: u8, joined: Option<Bytes>) -> bool
+        requires seated { seats self.old key member ≢ None }
+        requires joined { ForSome joined (λ bytes. ForSome (standing self.old key) (λ held. HasJoined held bytes)) }
         ensures last { IsTrue result ↔ IsLast self.old key member }
         ensures seat { look_ups self.new ≡ seated (look_ups self.old) key member None }
     {
         match self.at_mut(key, hint) {
-            Some(instance) => instance.leave(member),
+            Some(instance) => instance.leave(member, joined),
             None => unreachable!(),
         }
     }

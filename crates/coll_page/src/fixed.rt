@@ -50,6 +50,9 @@ canvas { display: block; width: 100%; cursor: grab; touch-action: pan-y; }
 .table { overflow-x: auto; }
 table { border-collapse: collapse; font-size: 14px; }
 th, td { padding: 3px 12px 3px 0; text-align: left; border-bottom: 1px solid var(--line); white-space: nowrap; }
+.run td { white-space: normal; border-bottom: 0; border-left: 2px solid var(--line); padding: 2px 10px; min-width: 150px; }
+.run th { padding: 2px 10px; } .run .step { background: var(--panel); } .run .chooses { border-left-color: var(--meet); }
+.run .stuck { border-left-color: var(--bad); color: var(--bad); }
 td.number, th.number { text-align: right; font-variant-numeric: tabular-nums; }
 svg text { fill: var(--text); font: 13px system-ui, sans-serif; }
 svg .node { fill: var(--panel); stroke: var(--bad); stroke-width: 2; }
@@ -64,6 +67,7 @@ svg .tip { fill: var(--bad); }
 <p class="about" id="about"></p>
 <p><span class="verdict" id="verdict"></span></p>
 <section id="cycle" hidden><h2>Who waits for whom</h2></section>
+<section id="run" hidden><h2>A run that deadlocks</h2></section>
 <section id="findings" hidden><h2>What was found</h2></section>
 <section id="timeline" hidden>
 <h2>Timeline</h2>
@@ -86,7 +90,7 @@ pub const FIXED_END: &str = r###"</script>
 <script>
 "use strict";
 const data = {
-    ...{title: "", about: "", verdict: "", tone: "", findings: [], waiting: [], waits: [], bars: [], arrows: [], tables: []},
+    ...{title: "", about: "", verdict: "", tone: "", findings: [], waiting: [], waits: [], run: [], bars: [], arrows: [], tables: []},
     ...JSON.parse(document.getElementById("data").textContent),
 };
 const element = (id) => document.getElementById(id);
@@ -106,13 +110,38 @@ function addExplained(objects) {
     const ranks = [...stuck.keys()].sort((a, b) => a - b), edges = new Map();
     for (const rank of ranks) {
         const it = stuck.get(rank), lines = it.requests.flatMap((request) => request.lacks.map((lack) => lackWords(request, lack)));
-        data.findings.push({words: `rank ${rank} waits in line ${it.line}: ${it.command}`, lines, tone: "bad"});
+        data.findings.push({words: `rank ${rank} ${stand(it)}`, lines, tone: "bad"});
         for (const lack of it.requests.flatMap((request) => request.lacks)) edges.set(`${rank} ${lack.rank}`, [rank, lack.rank]);
     }
     const shown = last.shortest && last.shortest.length ? last.shortest : ranks;
-    const wordsOf = (it) => it ? `line ${it.line}: ${it.command}` : "";
+    const wordsOf = (it) => it ? stand(it).replace("waits in ", "") : "";
     data.waiting = shown.map((rank) => ({rank, words: wordsOf(stuck.get(rank)), over: !stuck.has(rank)}));
     data.waits = [...edges.values()].filter((it) => shown.includes(it[0]) && shown.includes(it[1]));
+    const passes = objects.filter((it) => it.reason === "passes");
+    if (passes.length) data.run = [...runOf(passes), ...ranks.map((rank) => stopOf(stuck.get(rank)))];
+}
+
+// A run, step by step: the lines of one rank that don't depend on time are one step.
+function runOf(passes) {
+    const steps = [];
+    for (const {rank, line, completes} of passes) {
+        const before = steps[steps.length - 1], words = line === null ? "its end" : `line ${line}`;
+        if (completes) steps.push({rank, kind: "chooses", words: `${words} completes ${requestWords(completes)}`});
+        else if (!before || before.rank !== rank || !before.first) steps.push({rank, kind: "", first: line, words});
+        else before.words = `lines ${before.first} to ${line === null ? "its end" : line}`;
+    }
+    return steps;
+}
+
+const requestWords = (requests) => requests.length ? `request${requests.length > 1 ? "s" : ""} ${requests.join(", ")}` : "nothing";
+
+// The unwritten `waitall` at a rank's end has no line.
+const stand = ({line, command}) => line === null ? "waits at its end" : `waits in line ${line}: ${command}`;
+
+function stopOf({rank, line, command, requests}) {
+    const lacks = [...new Set(requests.flatMap((request) => request.lacks.map((lack) => lack.rank)))];
+    const words = stand({line, command});
+    return {rank, kind: "stuck", words: lacks.length ? `${words}, lacks rank ${lacks.join(", ")}` : words};
 }
 
 function lackWords(request, lack) {
@@ -292,6 +321,31 @@ function drawEdge(picture, from, to, size) {
 }
 
 if (data.waits.length) drawCycle(data.waiting, data.waits);
+
+// The picture of a run: a column for each rank, in the order of its steps
+
+function drawRun(steps) {
+    const ranks = [...new Set(steps.map((it) => it.rank))].sort((a, b) => a - b);
+    const shown = made("table", undefined, "run"), head = made("tr"), stops = steps.filter((it) => it.kind === "stuck");
+    for (const rank of ranks) head.append(made("th", `rank ${rank}`));
+    shown.append(head);
+    const addRow = (cells) => {
+        const row = made("tr");
+        for (const rank of ranks) {
+            const step = cells.find((it) => it.rank === rank);
+            row.append(made("td", step ? step.words : "", step ? `step ${step.kind}` : ""));
+        }
+        shown.append(row);
+    };
+    for (const step of steps) if (step.kind !== "stuck") addRow([step]);
+    if (stops.length) addRow(stops);
+    const frame = made("div", undefined, "table");
+    frame.append(shown);
+    element("run").append(frame);
+    element("run").hidden = false;
+}
+
+if (data.run.length) drawRun(data.run);
 
 // Tables
 

@@ -7,6 +7,7 @@
 //! |---|---|
 //! | `posting_lists` | `PostingLists`, the lists of one communicator's members |
 //! | `queues` | `Queues`, those of all communicators |
+//! | `signatures` | `Signatures`, the signatures of a communicator's places |
 //! | `laws` | what holds of all posting lists |
 #![tactic(auto)]
 

@@ -46,7 +46,12 @@ impl Survey {
 }
 
 /// The phase of a rank's request; None if it is null.
-fn phase(core: &Core, rank: u8, held: &[Option<Ticket>], q: usize) -> Result<Option<Phase>, Refusal>
+pub(crate) fn phase(
+    core: &Core,
+    rank: u8,
+    held: &[Option<Ticket>],
+    q: usize,
+) -> Result<Option<Phase>, Refusal>
     ensures { IfOk result (λ phase. phase ≡ phase_at (seen core.now) (held_at held.now q)) }
 {
     match held_at(held, q) {

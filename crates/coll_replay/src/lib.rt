@@ -10,6 +10,7 @@
 //! | `completing` | the requests that a completion call completes |
 //! | `carrying` | each command as calls on a core |
 //! | `replaying` | a whole schedule: `stalls_by`, `ends_by` |
+//! | `trial` | `Trial`, with which a schedule is made |
 //! | `laws` | what witnesses mean for all runs; worked rows |
 //! | `standing` | whether no rank can go on, and whether all are at their ends |
 #![tactic(auto)]
@@ -21,6 +22,8 @@ mod player;
 mod replaying;
 mod schedule;
 mod standing;
+mod trial;
 
 pub use replaying::{ends_by, stalls_by};
 pub use schedule::Move;
+pub use trial::Trial;

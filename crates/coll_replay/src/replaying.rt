@@ -53,10 +53,10 @@ pub fn ends_by(alloc: Global, script: &Script, schedule: &[Move]) -> Result<bool
 
 /// What a schedule brought a job to.
 #[derive(Drop)]
-struct Replay {
-    core: Core,
-    lines: Vec<Vec<Command>>,
-    players: Vec<Player>,
+pub(crate) struct Replay {
+    pub(crate) core: Core,
+    pub(crate) lines: Vec<Vec<Command>>,
+    pub(crate) players: Vec<Player>,
 }
 
 /// Carries a schedule out; None if one of its moves can't be made.
@@ -88,7 +88,7 @@ fn replayed(alloc: Global, script: &Script, schedule: &[Move]) -> Result<Option<
 }
 
 /// The engine of a job before its first call.
-fn opened(alloc: Global, script: &Script) -> Result<Replay, Refusal>
+pub(crate) fn opened(alloc: Global, script: &Script) -> Result<Replay, Refusal>
     ensures { IfOk result (λ replay. IsReplayed script.now replay.core replay.lines.items replay.players.items) }
 {
     configs_are_groups();
@@ -147,7 +147,7 @@ fn beginners(alloc: Global, count: usize) -> Result<Vec<Player>, Refusal>
 }
 
 /// Makes a move. Returns false if it can't be made.
-fn follow(
+pub(crate) fn follow(
     alloc: Global,
     core: &mut Core,
     groups: &[Vec<u8>],

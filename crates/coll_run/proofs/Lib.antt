@@ -2,6 +2,7 @@
 pub mod Meant
 pub mod Telling
 pub mod Asking
+mod Comparing
 -- threads and their results
 mod Ending
 mod RankEnds

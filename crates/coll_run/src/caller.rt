@@ -163,10 +163,7 @@ impl<L: Entries> Caller<L> {
             return Err(Refusal::Stale);
         };
         let (tested, _) = self.port.test(rt, request)?;
-        if let Some(outcome) = tested.outcome {
-            self.outcomes.push(outcome)?;
-        }
-        Ok(())
+        self.keep(tested.outcome)
     }
 
     fn wait<R: Wait + Clock, G: Gate>(
@@ -179,6 +176,11 @@ impl<L: Entries> Caller<L> {
             return Err(Refusal::Stale);
         };
         let (found, _) = self.port.wait(rt, gate, request)?;
+        self.keep(found)
+    }
+
+    /// Keeps the outcome of a request, if it has one.
+    fn keep(&mut self, found: Option<Outcome>) -> Result<(), Refusal> {
         if let Some(outcome) = found {
             self.outcomes.push(outcome)?;
         }

@@ -1,12 +1,14 @@
 //! Compares a report with a script.
 
-ghost use Rattle.std.specs.Prelude.{◌≡◌, ◌↔◌, [], IsTrue, IfOk, unwrap_or};
-ghost use Rattle.coll_report.specs.Scripts.{Says};
-ghost use Rattle.coll_report.specs.Comparisons.{said};
+ghost use Rattle.std.specs.Prelude.{◌≡◌, ◌↔◌, [], ◌∷◌, ◌++◌, List, IsTrue, IfOk, unwrap_or};
+ghost use Rattle.coll_parser.specs.Histories.{commands_of, issued_by};
+ghost use Rattle.coll_report.specs.Scripts.{Command as ScriptCommand, Says};
+ghost use Rattle.coll_report.specs.Comparisons.{SaysLeft, said};
 ghost use Rattle.coll_report.specs.Posts.{posts_left};
 ghost use Rattle.coll_run.specs.Commands.{all_traced, traced};
 ghost use Rattle.coll_run.specs.Runs.{AllFollow, IsRun};
 
+use coll_parser::{History, IssuedCommand};
 use coll_report::{Command as Shown, Comparison, Posts, Report};
 use coll_script::{Command, Script};
 use std::alloc::{AllocError, Global};
@@ -28,26 +30,47 @@ fn all_follow(alloc: Global, script: &Script, report: &Report) -> Result<bool, A
     ensures { IfOk result
         (λ all. IsTrue all ↔ AllFollow (unwrap_or script.now.ranks 0) script.now report.now) }
 {
-    for rank in 0..script.history().ranks() {
-        let commands = script.commands_of(rank)?;
-        if !rank_follows(alloc, report.posts(rank), &commands)? {
+    let history = script.history();
+    for rank in 0..history.ranks() {
+        if !rank_follows(alloc, report.posts(rank), history, rank)? {
             return Ok(false);
         }
     }
     Ok(true)
 }
 
-/// Whether these posts, initialisations and starts are those of the commands, one for one and in their order.
-fn rank_follows(alloc: Global, posts: Posts<'_>, commands: &[Command]) -> Result<bool, AllocError>
-    ensures { IfOk result (λ same. IsTrue same ↔ Says [] (all_traced commands.now) (posts_left posts.entry)) }
+/// Whether these posts, initialisations and starts are those of the rank's commands, one for one and in their order.
+fn rank_follows(
+    alloc: Global,
+    posts: Posts<'_>,
+    history: &History,
+    rank: u8,
+) -> Result<bool, AllocError>
+    ensures { IfOk result (λ same. IsTrue same ↔ Says [] (all_traced (commands_of history.now rank)) (posts_left posts.entry)) }
 {
     let mut comparison = Comparison::new(alloc, posts);
-    for command in commands {
-        if !comparison.next_is(shown(command))? {
+    let commands = history.commands();
+    for issued in commands {
+        if !goes_on(&mut comparison, issued, rank)? {
             return Ok(false);
         }
     }
     Ok(comparison.is_over())
+}
+
+/// Whether the next of them is the command's, or the command has none or is another rank's.
+fn goes_on(
+    comparison: &mut Comparison<'_>,
+    issued: &IssuedCommand,
+    rank: u8,
+) -> Result<bool, AllocError>
+    ensures { IfOk result (λ same. (rest : List ScriptCommand) →
+        SaysLeft comparison.old (all_traced (issued_by rank (issued.now ∷ [])) ++ rest) ↔ (IsTrue same × SaysLeft comparison.new rest)) }
+{
+    if issued.rank != rank {
+        return Ok(true);
+    }
+    comparison.next_is(shown(&issued.command))
 }
 
 /// The command as far as a trace shows it.

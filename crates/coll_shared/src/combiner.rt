@@ -7,13 +7,13 @@ ghost use Rattle.std.specs.Sync.Mutex.{mutex_guard_value};
 ghost use Rattle.coll_traced.specs.Ranks.{IsIn};
 ghost use Rattle.coll_shared.specs.Sleepers.{AreCalled, Wakes};
 
+use crate::idlers::Idlers;
 use crate::locked::{Locked, Successor};
 use crate::record::PublicationRecord;
 use coll_core::{DoneShortWork, ShortWork};
 use coll_kinds::Refusal;
 use coll_spin::Processors;
 use coll_traced::{Entries, Ranks, TracedCore};
-use crossbeam_utils::sync::EventCount;
 use crossbeam_utils::{Backoff, CachePadded};
 pub(crate) use held::Held;
 use std::alloc::Global;
@@ -31,8 +31,7 @@ pub(crate) struct Combiner<L: Entries> {
     records: Vec<PublicationRecord<L>>,
     /// How many threads wait for the lock itself.
     wanted: CachePadded<AtomicU64>,
-    /// Where idle progress threads sleep.
-    pub(crate) idlers: EventCount,
+    pub(crate) idlers: Idlers,
     /// How many threads sleep.
     sleepers: CachePadded<AtomicU64>,
     /// The ranks whose ports were dropped unfinished, as bits, until a combiner notes that they
@@ -58,7 +57,7 @@ impl<L: Entries> Combiner<L> {
             locked: Mutex::new(Locked::new(traced)),
             records,
             wanted: zero(),
-            idlers: EventCount::new(),
+            idlers: Idlers::new(),
             sleepers: zero(),
             departed: zero(),
             processors: CachePadded::new(Processors::new()),
@@ -302,7 +301,7 @@ impl<L: Entries> Combiner<L> {
         let wake = held.unlock();
         self.wake(wake);
         if next == Successor::Worker {
-            self.idlers.notify_one();
+            self.idlers.call();
         }
     }
 

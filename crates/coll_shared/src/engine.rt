@@ -16,6 +16,7 @@ use coll_core::{Communicators, Config};
 use coll_kinds::Refusal;
 use coll_traced::{Entries, Replacement, Tally, TracedCore};
 use std::alloc::Global;
+use std::rt::Clock;
 use std::sync::ledger::{Blank, Share};
 use std::sync::{Arc, Wait};
 
@@ -50,15 +51,15 @@ pub struct Engine<L: Entries> {
 }
 
 impl<L: Entries> Engine<L> {
-    /// Runs the calling thread as a progress thread until `stop`. It makes steps, computes
-    /// combinations with the lock free, and sleeps while no request is ready. Returns how many
-    /// combinations it computed; the count saturates.
+    /// Runs the calling thread as a progress thread until `stop`. It makes steps, and computes
+    /// combinations with the lock free. While no request is ready it looks for work for a while, then
+    /// sleeps. Returns how many combinations it computed; the count saturates.
     ///
     /// # Errors
     ///
     /// NoMemory for a step or for a combination, which is given back. Stale if the result of a
     /// combination isn't wanted any longer.
-    pub fn work<R: Wait, G: Gate>(&self, rt: &R, gate: &G) -> Result<u64, Refusal>
+    pub fn work<R: Wait + Clock, G: Gate>(&self, rt: &R, gate: &G) -> Result<u64, Refusal>
         ensures refused { IfErr result IsSetback }
     {
         self.combiner.work(rt, gate)
@@ -69,7 +70,7 @@ impl<L: Entries> Engine<L> {
         let mut held = self.combiner.enter(rt);
         held.locked.stopped = true;
         self.combiner.release(held);
-        self.combiner.idlers.notify_all();
+        self.combiner.idlers.call_all();
     }
 
     /// Returns how many threads sleep in the engine: waiting ports and progress threads. Reads

@@ -16,7 +16,8 @@
 //! | `combiner` | `Combiner`: the lock and the records, and what the lock's holder does for all |
 //! | `combiner::held` | `Held`: the lock's guard, which can't be dropped |
 //! | `locked` | `Locked`: what the lock guards |
-//! | `looking` | a port's calls on the guarded state, in contracts that still hold once the lock is free |
+//! | `idlers` | `Idlers`: where progress threads with nothing to do linger and sleep |
+//! | `calls` | a port's calls on the guarded state, in contracts that still hold once the lock is free |
 //! | `publishing` | posts and starts, which the combiner makes if the lock isn't free |
 //! | `waiter` | waits: spin on the record, take the lock, park |
 //! | `turn` | what a waiting port, a test and a progress thread do with the lock |
@@ -33,13 +34,14 @@
 //! ```
 #![tactic(auto)]
 
+mod calls;
 mod closing;
 mod combiner;
 mod engine;
 mod gate;
+mod idlers;
 mod inspect;
 mod locked;
-mod looking;
 mod port;
 mod publication;
 mod publishing;

@@ -17,6 +17,7 @@ use coll_traced::Entries;
 pub use ends::Ends;
 use start::Start;
 use std::alloc::{AllocError, Global};
+use std::rt::Clock;
 use std::snapshot::Snapshot;
 use std::sync::Wait;
 use std::thread;
@@ -53,7 +54,7 @@ impl Promise<Option<Refusal>> for Progress {
 /// No memory, before the first thread was started.
 pub fn run_rank_threads<
     L: Entries + Send + Sync,
-    R: Threads + Wait + Sync,
+    R: Threads + Wait + Clock + Sync,
     G: Gate + Sync,
     T: Send + Drop,
     K: RankTask<T> + Send + Drop,
@@ -80,7 +81,7 @@ fn run_in_scope<
     's,
     E,
     L: Entries + Send + Sync,
-    R: Threads + Wait + Sync,
+    R: Threads + Wait + Clock + Sync,
     G: Gate + Sync,
     T: Send + Drop + 's,
     K: RankTask<T> + Send + Drop + 's,
@@ -151,7 +152,7 @@ fn start_ranks<
 }
 
 /// Starts `workers` progress threads, up to one that can't be started. Returns whether all were.
-fn start_workers<'s, E, L: Entries + Send + Sync, R: Threads + Wait + Sync, G: Gate + Sync>(
+fn start_workers<'s, E, L: Entries + Send + Sync, R: Threads + Wait + Clock + Sync, G: Gate + Sync>(
     rt: &'s R,
     scope: &Scope<'s, E>,
     gate: &'s G,
@@ -184,7 +185,7 @@ fn run_rank<R: Wait, T, K: RankTask<T>>(rt: &R, start: &Start, task: K) -> T
 
 /// Makes progress until the engine is stopped, once all threads were started. Returns why it ended
 /// before that.
-fn run_worker<L: Entries, R: Wait, G: Gate>(
+fn run_worker<L: Entries, R: Wait + Clock, G: Gate>(
     rt: &R,
     gate: &G,
     start: &Start,

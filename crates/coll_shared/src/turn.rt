@@ -12,6 +12,7 @@ use coll_core::{Stepped, Work};
 use coll_kinds::Refusal;
 use coll_spin::{SpinPolicy, pause_with_the_lock};
 use coll_traced::Entries;
+use std::rt::Clock;
 use std::sync::Wait;
 
 /// How many combinations a waiting port computes in a row.
@@ -245,7 +246,7 @@ impl<L: Entries> Combiner<L> {
     ///
     /// NoMemory of a step or a combination; Stale if the result of a combination isn't wanted any
     /// longer.
-    pub(crate) fn work<R: Wait, G: Gate>(&self, rt: &R, gate: &G) -> Result<u64, Refusal>
+    pub(crate) fn work<R: Wait + Clock, G: Gate>(&self, rt: &R, gate: &G) -> Result<u64, Refusal>
         ensures { IfErr result IsSetback }
     {
         let mut computed = 0u64;
@@ -283,10 +284,10 @@ impl<L: Entries> Combiner<L> {
         unreachable!()
     }
 
-    /// Lets a progress thread that holds the lock sleep, because nothing is ready, and take the
-    /// lock again. It is counted under the lock, so that a thread which makes something ready later
-    /// wakes it.
-    fn idle<'a, R: Wait, G: Gate>(
+    /// Lets a progress thread that holds the lock wait until it is called, because nothing is ready,
+    /// and take the lock again. It is counted under the lock, so that a thread which makes something
+    /// ready later calls it.
+    fn idle<'a, R: Wait + Clock, G: Gate>(
         &'a self,
         rt: &R,
         gate: &G,
@@ -294,11 +295,13 @@ impl<L: Entries> Combiner<L> {
         written: Option<u64>,
     ) -> Held<'a, L> {
         held.locked.idle = held.locked.idle.saturating_add(1);
-        let key = self.idlers.prepare_wait();
+        let calls = self.idlers.calls();
         self.leave(gate, held, written);
-        self.falls_asleep();
-        key.wait(rt);
-        self.wakes_up();
+        if !self.idlers.linger(rt, self.processors.linger(rt), calls) {
+            self.falls_asleep();
+            self.idlers.sleep(rt, calls);
+            self.wakes_up();
+        }
         let mut held = self.enter(rt);
         held.locked.idle = held.locked.idle.saturating_sub(1);
         held

@@ -6,15 +6,19 @@
 //! | Module | Has |
 //! |---|---|
 //! | `policy` | `SpinPolicy`, how one wait spins |
+//! | `linger` | `Linger`, how long an idle progress thread looks for work |
 //! | `history` | `WaitHistory`, what a thread has found in its waits |
 //! | `processors` | `Processors`, which policy a wait gets, by the numbers of threads and processors |
+//! | `clock` | the monotonic clock in microseconds |
 #![tactic(auto)]
 
 mod clock;
 mod history;
+mod linger;
 mod policy;
 mod processors;
 
 pub use history::WaitHistory;
+pub use linger::Linger;
 pub use policy::{SpinPolicy, pause_with_the_lock};
 pub use processors::Processors;

@@ -37,7 +37,7 @@ impl Processors {
     }
 
     /// Whether each thread has a processor of its own.
-    fn has_each_its_own(&self) -> bool {
+    pub(crate) fn has_each_its_own(&self) -> bool {
         self.threads.load(Ordering::SeqCst) <= self.processors.load(Ordering::SeqCst)
     }
 

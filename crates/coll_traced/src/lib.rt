@@ -6,9 +6,10 @@
 //! |---|---|
 //! | `traced_core` | `TracedCore`: the core with its trace, and the calls on both; `Completed`: a request that was completed for a port |
 //! | `tally` | `Tally`: how many entries are one rank's; `Entries`: the ledger of entries |
-//! | `trace` | `Trace`: the entries so far, with room for those still to come; `Receipt`, `Receipts`, and `Appended`
-//! for another thread, which show what a call appended |
-//! | `operation` | `Operation`: a post or a start that one thread leaves to another (`PostOperation`, `StartOperation`) |
+//! | `trace` | `Trace`: the entries so far, with room for those still to come; `Receipt`, `Receipts`, `Appended`: what a call appended |
+//! | `operation` | `Operation`: a post or a start that one thread leaves to another |
+//! | `post_operation` | `PostOperation`: such a post; `posted_in` recognizes its entry |
+//! | `start_operation` | `StartOperation`: such a start; `started_in` recognizes its entry |
 //! | `awaited` | `Awaited`: what a port waits for |
 //! | `waiting` | `Waiting`: how a port waits |
 //! | `port_wait` | `PortWait`: what one port waits for, with memory for a list |

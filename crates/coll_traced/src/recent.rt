@@ -7,10 +7,10 @@ use coll_ops::are_same;
 /// request, and the entry of that completion.
 const OWN: usize = 2;
 
-/// The last bytes of the trace that later entries may share. All members of an allgather get the
-/// same bytes, each in memory of its own, so the trace keeps one copy by comparing them. An outcome
-/// whose block already has other owners isn't compared, since the trace keeps it once anyway: the
-/// root of a bcast and the members of an allreduce share blocks.
+/// The last bytes of the trace that later entries may share. Members of an alltoall may get the same
+/// bytes, each in memory of its own, so the trace keeps one copy by comparing them. An outcome whose
+/// block already has other owners isn't compared, since the trace keeps it once anyway: the members
+/// of a bcast, an allgather or an allreduce share blocks.
 #[derive(Drop)]
 pub(crate) struct Recent {
     bytes: Option<Bytes>,

@@ -20,7 +20,7 @@ use std::marker::Model;
 pub(crate) struct Waits {
     slots: u32,
     ports: Vec<PortWait>,
-    /// Returns the ranks whose ports wait for requests.
+    /// The ranks whose ports wait for requests.
     waiting: Ranks,
 }
 

@@ -1,6 +1,6 @@
 //! Principle: a reduce to member 0, and then a bcast from there, each by a binomial tree. `plan` of `coll_plans` doesn't use
-//! this builder: it makes an allreduce by `recursive_doubling_allreduce` there, which takes fewer exchanges. The test rows of
-//! `test_parts` run this one.
+//! this builder: it makes an allreduce by `recursive_doubling_allreduce` there, which takes fewer exchanges. The rows of
+//! `cases_core` and the tests of `tests/engine` run this one.
 //!
 //! Rounds: 3 d for d = ceil(log2 n), of which 2 d exchange; the others are a member's own. Messages: 2 (n - 1) together, each
 //! of the block's B bytes. A buffer has 2 B bytes.

@@ -323,6 +323,11 @@ module _ (hears : Hearing) (g : Setting) (lines : ℕ → List Command) (last : 
   reached _ begins = within_begins
   reached _ (goes_on {s} {u} r step) = within_step s u (reached s r) step
 
+-- no run goes beyond closed stands
+pub within_stands : (hears : Hearing) (g : Setting) (lines : ℕ → List Command) (last : ℕ → ℕ) → AreClosed hears g lines last
+    → (s : Standing) → ReachesBy hears g lines s → (rank : ℕ) → s.at rank ≤ last rank
+within_stands hears g lines last closed s r = (reached hears g lines last closed s r).within
+
 pub closed_stands_stall_by : ClosedStandsStallBy
 closed_stands_stall_by hears g lines last closed short s r end =
     let w = reached hears g lines last closed s r in
@@ -339,7 +344,7 @@ step_by_needs g lines s _ (standings.finishes {n} step) =
     subst (λ (m : Machine). StepsBy needs g lines s (record s { machine = m })) (sym f.2)
     (finishes f.0 f.1.start f.1.request f.1.sig f.1.is f.1.pending (record { ready = f.1.ready; heard = λ p low need. f.1.ready.needed p need }))
 
-reaches_by_needs : (g : Setting) (lines : ℕ → List Command) (s : Standing) → Reaches g lines s → ReachesBy needs g lines s
+pub reaches_by_needs : (g : Setting) (lines : ℕ → List Command) (s : Standing) → Reaches g lines s → ReachesBy needs g lines s
 reaches_by_needs g lines _ standings.begins = begins
 reaches_by_needs g lines _ (standings.goes_on {s} {u} r step) = goes_on (reaches_by_needs g lines s r) (step_by_needs g lines s u step)
 

@@ -258,7 +258,7 @@ module _ (h : History) (xs : List Stood) (groups : List (Vec ℕ Global)) (s : A
         go true is get = get_none xs rank (subst (λ n. rank < n) (sym s.ranks) (ltb-true rank (unwrap_or h.ranks 0) is)) none
         go false is get = none-some c get
 
-    are_closed : all_stay library xs groups ≡ true → AreClosed hears g (lines_of h) (stand_of xs)
+    pub are_closed : all_stay library xs groups ≡ true → AreClosed hears g (lines_of h) (stand_of xs)
     are_closed all rank c get = go (slice_get xs rank) refl
       where
         go : (o : Option Stood) → slice_get xs rank ≡ o → IsBlocked hears g said rank c

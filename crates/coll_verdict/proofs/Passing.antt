@@ -121,9 +121,9 @@ carried_keeps g m h k rank placed tr keeps _ _ _ (standings.wait_any {n} qs q co
 
 pub record IsRun (g : Setting) (lines : ℕ → List Command) (s : Standing) : Type 0 where
   pub tracks : Tracks NoUp g s.machine s.holds (sketches lines s.at)
-  keeps : Keeps g s.machine.state (sketches lines s.at)
-  sure : AreSure s.machine s.holds (sketches lines s.at)
-  most : (rank : ℕ) → s.at rank ≤ length (lines rank)
+  pub keeps : Keeps g s.machine.state (sketches lines s.at)
+  pub sure : AreSure s.machine s.holds (sketches lines s.at)
+  pub most : (rank : ℕ) → s.at rank ≤ length (lines rank)
 
 up_to : (a b c d : ℕ) → d ≡ suc a → a < b → b ≡ c → d ≤ c
 up_to a b c d x l y = omega arith
@@ -205,10 +205,10 @@ come_later : (p q a b : ℕ) → p ≡ q → q < a → a ≤ b → p < b
 come_later p q a b e low more = omega arith
 
 -- what is used of a stall: by the rule what has heard is Done
-record Stays (rule : Rule) (g : Setting) (lines : ℕ → List Command) (s : Standing) : Type 0 where
-  waits : (rank : ℕ) (c : Command) → slice_get (lines rank) (s.at rank) ≡ Some c → Waits g lines s rank c
-  returns : (rank comm : ℕ) (sig : Signature) → slice_get (lines rank) (s.at rank) ≡ Some (Init comm sig) → rule.holds ≡ true
-  settled : (slot start : ℕ) (q : Request) (sig : Signature) → s.machine.state.request slot ≡ Some q
+pub record Stays (rule : Rule) (g : Setting) (lines : ℕ → List Command) (s : Standing) : Type 0 where
+  pub waits : (rank : ℕ) (c : Command) → slice_get (lines rank) (s.at rank) ≡ Some c → Waits g lines s rank c
+  pub returns : (rank comm : ℕ) (sig : Signature) → slice_get (lines rank) (s.at rank) ≡ Some (Init comm sig) → rule.holds ≡ true
+  pub settled : (slot start : ℕ) (q : Request) (sig : Signature) → s.machine.state.request slot ≡ Some q
       → HasHeard rule.hears g s.machine.state q start sig → s.machine.done slot ≡ true
 
 or_left : (a b : Bool) → a ≡ true → (a || b) ≡ true
@@ -358,7 +358,8 @@ module _ (rule : Rule) (g : Setting) (lines : ℕ → List Command) (s : Standin
 less : (a b : ℕ) → a ≤ b → (a ≡ b → ⊥) → a < b
 less a b l d = omega arith
 
-passed_by : (rule : Rule) (g : Setting) (lines : ℕ → List Command) (s : Standing) → IsRun g lines s → Stays rule g lines s
+-- it has passed whatever ranks can pass
+pub passed_by : (rule : Rule) (g : Setting) (lines : ℕ → List Command) (s : Standing) → IsRun g lines s → Stays rule g lines s
     → (at : ℕ → ℕ) → Passes rule g lines at → (r : ℕ) → at r ≤ s.at r
 passed_by rule g lines s w st _ passes.none = λ r. omega arith
 passed_by rule g lines s w st _ (passes.one_more {at} rank c before get can) =

@@ -8,15 +8,16 @@ ghost use Rattle.coll_verdict.specs.Checking.{lacks_member, lacks_some, lacks_to
 use crate::known::KnownRequest;
 use crate::library::{HeardRows, Library};
 use crate::stood::Stood;
+use crate::view::{GroupRequest, View};
 use coll_kinds::{MAX_RANKS, member_of};
 use coll_parser::{Command, Named};
 
 /// Whether no rank can go on from its stand, while no other is beyond its own. For each request that a rank's next
 /// command names, the cost is linear in the requests of all ranks.
-pub(crate) fn all_stay(library: &Library, ranks: &[Stood], groups: &[Vec<u8>]) -> bool
-    ensures { result ≡ all_stay library.now ranks.now groups.now }
+pub fn all_stay(view: &View<'_>) -> bool
+    ensures { result ≡ all_stay view.now.library.now view.now.ranks.now view.now.groups.now }
 {
-    ranks.iter().all(|own| stays(library, ranks, groups, own))
+    view.ranks.iter().all(|own| stays(view, own))
 }
 
 /// Whether a rank isn't at its end.
@@ -27,240 +28,171 @@ pub(crate) fn one_is_short(ranks: &[Stood]) -> bool
 }
 
 /// Whether the rank is at its end, or can't go on.
-fn stays(library: &Library, ranks: &[Stood], groups: &[Vec<u8>], own: &Stood) -> bool
-    ensures { result ≡ rank_stays library.now ranks.now groups.now own.now }
+pub fn stays(view: &View<'_>, own: &Stood) -> bool
+    ensures { result ≡ rank_stays view.now.library.now view.now.ranks.now view.now.groups.now own.now }
 {
     match own.commands.get(own.stand) {
-        Some(command) => is_held_up(library, ranks, groups, own, command),
+        Some(command) => is_held_up(view, own, command),
         None => true,
     }
 }
 
 /// Whether the rank can't carry the command out.
-fn is_held_up(
-    library: &Library,
-    ranks: &[Stood],
-    groups: &[Vec<u8>],
-    own: &Stood,
-    command: &Command,
-) -> bool
-    ensures { result ≡ is_held_up library.now ranks.now groups.now own.now command.now }
+fn is_held_up(view: &View<'_>, own: &Stood, command: &Command) -> bool
+    ensures { result ≡ is_held_up view.now.library.now view.now.ranks.now view.now.groups.now own.now command.now }
 {
     match command {
-        Command::Wait(q) => is_awaited(library, ranks, groups, own, *q as usize),
-        Command::WaitAll(named) => one_is_awaited(library, ranks, groups, own, named),
+        Command::Wait(q) => is_awaited(view, own, *q as usize),
+        Command::WaitAll(named) => one_is_awaited(view, own, named),
         Command::WaitAny(named) => {
-            one_is_awaited(library, ranks, groups, own, named)
-                && none_can_be_done(library, ranks, groups, own, named)
+            one_is_awaited(view, own, named) && none_can_be_done(view, own, named)
         }
         Command::WaitSome(named) => {
-            one_is_awaited(library, ranks, groups, own, named)
-                && none_can_be_done(library, ranks, groups, own, named)
+            one_is_awaited(view, own, named) && none_can_be_done(view, own, named)
         }
         Command::Post { .. } | Command::Init { .. } | Command::Start { .. } => false,
         Command::Test(_) | Command::Free(_) => false,
     }
 }
 
-fn one_is_awaited(
-    library: &Library,
-    ranks: &[Stood],
-    groups: &[Vec<u8>],
-    own: &Stood,
-    named: &Named,
-) -> bool
-    ensures { result ≡ list_any (awaited_at library.now ranks.now groups.now own.now) named.now }
+fn one_is_awaited(view: &View<'_>, own: &Stood, named: &Named) -> bool
+    ensures { result ≡ list_any (awaited_at view.now.library.now view.now.ranks.now view.now.groups.now own.now) named.now }
 {
     let mut is_found = false;
     for index in 0..named.len() {
-        is_found = is_found || is_awaited(library, ranks, groups, own, named.get(index));
+        is_found = is_found || is_awaited(view, own, named.get(index));
     }
     is_found
 }
 
-fn none_can_be_done(
-    library: &Library,
-    ranks: &[Stood],
-    groups: &[Vec<u8>],
-    own: &Stood,
-    named: &Named,
-) -> bool
-    ensures { result ≡ list_all (cant_at library.now ranks.now groups.now own.now) named.now }
+fn none_can_be_done(view: &View<'_>, own: &Stood, named: &Named) -> bool
+    ensures { result ≡ list_all (cant_at view.now.library.now view.now.ranks.now view.now.groups.now own.now) named.now }
 {
     let mut holds = true;
     for index in 0..named.len() {
-        holds = holds && cant_be_done(library, ranks, groups, own, named.get(index));
+        holds = holds && cant_be_done(view, own, named.get(index));
     }
     holds
 }
 
 /// Whether the request was started and lacks a member.
-fn is_awaited(library: &Library, ranks: &[Stood], groups: &[Vec<u8>], own: &Stood, q: usize) -> bool
-    ensures { result ≡ awaited_at library.now ranks.now groups.now own.now q }
+fn is_awaited(view: &View<'_>, own: &Stood, q: usize) -> bool
+    ensures { result ≡ awaited_at view.now.library.now view.now.ranks.now view.now.groups.now own.now q }
 {
     match own.requests.get(q) {
-        Some(request) => waits(library, ranks, groups, own.rank, request),
+        Some(request) => waits(view, own.rank, request),
         None => false,
     }
 }
 
-fn waits(
-    library: &Library,
-    ranks: &[Stood],
-    groups: &[Vec<u8>],
-    rank: u8,
-    request: &KnownRequest,
-) -> bool
-    ensures { result ≡ waits library.now ranks.now groups.now rank request.now }
+fn waits(view: &View<'_>, rank: u8, request: &KnownRequest) -> bool
+    ensures { result ≡ waits view.now.library.now view.now.ranks.now view.now.groups.now rank request.now }
 {
-    request.starts > 0 && lacks(library, ranks, groups, rank, request)
+    request.starts > 0 && lacks(view, rank, request)
 }
 
 /// Whether the request was never started, has been waited for, or lacks a member.
-fn cant_be_done(
-    library: &Library,
-    ranks: &[Stood],
-    groups: &[Vec<u8>],
-    own: &Stood,
-    q: usize,
-) -> bool
-    ensures { result ≡ cant_at library.now ranks.now groups.now own.now q }
+fn cant_be_done(view: &View<'_>, own: &Stood, q: usize) -> bool
+    ensures { result ≡ cant_at view.now.library.now view.now.ranks.now view.now.groups.now own.now q }
 {
     match own.requests.get(q) {
         Some(request) => {
-            request.starts == 0
-                || request.is_rested
-                || lacks(library, ranks, groups, own.rank, request)
+            request.starts == 0 || request.is_rested || lacks(view, own.rank, request)
         }
         None => false,
     }
 }
 
 /// Whether a rank's request waits for a member that has not come to its start.
-fn lacks(
-    library: &Library,
-    ranks: &[Stood],
-    groups: &[Vec<u8>],
-    rank: u8,
-    own: &KnownRequest,
-) -> bool
-    ensures { result ≡ lacks library.now ranks.now groups.now rank own.now }
+fn lacks(view: &View<'_>, rank: u8, own: &KnownRequest) -> bool
+    ensures { result ≡ lacks view.now.library.now view.now.ranks.now view.now.groups.now rank own.now }
 {
-    match groups.get(own.comm as usize) {
-        Some(group) => lacks_some(library, ranks, group, own, member_of(rank, group)),
-        None => false,
-    }
+    let Some(group) = view.groups.get(own.comm as usize) else {
+        return false;
+    };
+    let request = GroupRequest {
+        ranks: view.ranks,
+        group: group.as_slice(),
+        own,
+    };
+    lacks_some(view.library, &request, member_of(rank, group))
 }
 
-fn lacks_some(
-    library: &Library,
-    ranks: &[Stood],
-    group: &[u8],
-    own: &KnownRequest,
-    member: Option<usize>,
-) -> bool
-    ensures { result ≡ lacks_some library.now ranks.now group.now own.now member }
+fn lacks_some(library: &Library, request: &GroupRequest<'_>, member: Option<usize>) -> bool
+    ensures { result ≡ lacks_some library.now request.now.ranks.now request.now.group.now request.now.own.now member }
 {
     match member {
-        Some(member) => lacks_by(library, ranks, group, own, member),
+        Some(member) => lacks_by(library, request, member),
         None => false,
     }
 }
 
-fn lacks_by(
-    library: &Library,
-    ranks: &[Stood],
-    group: &[u8],
-    own: &KnownRequest,
-    member: usize,
-) -> bool
-    ensures { result ≡ lacks_by library.now ranks.now group.now own.now member }
+fn lacks_by(library: &Library, request: &GroupRequest<'_>, member: usize) -> bool
+    ensures { result ≡ lacks_by library.now request.now.ranks.now request.now.group.now request.now.own.now member }
 {
     match library {
-        Library::Any => member < MAX_RANKS && lacks_any(ranks, group, own, member as u8),
-        Library::Hears(tables) => lacks_by_some(tables, ranks, group, own, member),
+        Library::Any => member < MAX_RANKS && lacks_any(request, member as u8),
+        Library::Hears(tables) => lacks_by_some(tables, request, member),
     }
 }
 
-fn lacks_by_some(
-    tables: &[HeardRows],
-    ranks: &[Stood],
-    group: &[u8],
-    own: &KnownRequest,
-    member: usize,
-) -> bool
-    ensures { result ≡ list_any (lacks_heard ranks.now group.now own.now member) tables.now }
+fn lacks_by_some(tables: &[HeardRows], request: &GroupRequest<'_>, member: usize) -> bool
+    ensures { result ≡ list_any (lacks_heard request.now.ranks.now request.now.group.now request.now.own.now member) tables.now }
 {
     tables
         .iter()
-        .any(|table| lacks_heard(table, ranks, group, own, member))
+        .any(|table| lacks_heard(table, request, member))
 }
 
 /// Whether this is the collective's table, and the request of a member waits by it for another, which has not come to its start.
-fn lacks_heard(
-    table: &HeardRows,
-    ranks: &[Stood],
-    group: &[u8],
-    own: &KnownRequest,
-    member: usize,
-) -> bool
-    ensures { result ≡ lacks_heard ranks.now group.now own.now member table.now }
+fn lacks_heard(table: &HeardRows, request: &GroupRequest<'_>, member: usize) -> bool
+    ensures { result ≡ lacks_heard request.now.ranks.now request.now.group.now request.now.own.now member table.now }
 {
-    table.is_of(&own.sig, group.len()) && lacks_some_told(table, ranks, group, own, member)
+    table.is_of(&request.own.sig, request.group.len()) && lacks_some_told(table, request, member)
 }
 
-fn lacks_some_told(
-    table: &HeardRows,
-    ranks: &[Stood],
-    group: &[u8],
-    own: &KnownRequest,
-    member: usize,
-) -> bool
-    ensures { result ≡ list_any (lacks_told ranks.now group.now own.now member table.now) (range_with_len 0 (length group.now)) }
+fn lacks_some_told(table: &HeardRows, request: &GroupRequest<'_>, member: usize) -> bool
+    ensures { result ≡ list_any (lacks_told request.now.ranks.now request.now.group.now request.now.own.now member table.now)
+        (range_with_len 0 (length request.now.group.now)) }
 {
-    (0..group.len()).any(|other| lacks_told(table, ranks, group, own, member, other))
+    (0..request.group.len()).any(|other| lacks_told(table, request, member, other))
 }
 
-fn lacks_told(
-    table: &HeardRows,
-    ranks: &[Stood],
-    group: &[u8],
-    own: &KnownRequest,
-    member: usize,
-    other: usize,
-) -> bool
-    ensures { result ≡ lacks_told ranks.now group.now own.now member table.now other }
+fn lacks_told(table: &HeardRows, request: &GroupRequest<'_>, member: usize, other: usize) -> bool
+    ensures { result ≡ lacks_told request.now.ranks.now request.now.group.now request.now.own.now member table.now other }
 {
-    table.says_yes(member, other) && peer_is_late(ranks, group, own, other)
+    table.says_yes(member, other) && peer_is_late(request, other)
 }
 
-fn lacks_any(ranks: &[Stood], group: &[u8], own: &KnownRequest, member: u8) -> bool
-    ensures { result ≡ list_any (lacks_member ranks.now group.now own.now member) (range_with_len 0 (size_in group.now)) }
+fn lacks_any(request: &GroupRequest<'_>, member: u8) -> bool
+    ensures { result ≡ list_any (lacks_member request.now.ranks.now request.now.group.now request.now.own.now member)
+        (range_with_len 0 (size_in request.now.group.now)) }
 {
-    (0..size_in(group)).any(|other| lacks_member(ranks, group, own, member, other))
+    (0..size_in(request.group)).any(|other| lacks_member(request, member, other))
 }
 
 /// Whether the request of a member waits for another, which has not come to its start.
-fn lacks_member(ranks: &[Stood], group: &[u8], own: &KnownRequest, member: u8, other: u8) -> bool
-    ensures { result ≡ lacks_member ranks.now group.now own.now member other }
+fn lacks_member(request: &GroupRequest<'_>, member: u8, other: u8) -> bool
+    ensures { result ≡ lacks_member request.now.ranks.now request.now.group.now request.now.own.now member other }
 {
-    own.sig.needs(size_in(group), member, other) && peer_is_late(ranks, group, own, other as usize)
+    request.own.sig.needs(size_in(request.group), member, other)
+        && peer_is_late(request, other as usize)
 }
 
-fn peer_is_late(ranks: &[Stood], group: &[u8], own: &KnownRequest, other: usize) -> bool
-    ensures { result ≡ peer_is_late ranks.now own.now (slice_get group.now other) }
+fn peer_is_late(request: &GroupRequest<'_>, other: usize) -> bool
+    ensures { result ≡ peer_is_late request.now.ranks.now request.now.own.now (slice_get request.now.group.now other) }
 {
-    match group.get(other) {
-        Some(peer) => rank_is_late(ranks, own, *peer),
+    match request.group.get(other) {
+        Some(peer) => rank_is_late(request, *peer),
         None => false,
     }
 }
 
-fn rank_is_late(ranks: &[Stood], own: &KnownRequest, peer: u8) -> bool
-    ensures { result ≡ is_late own.now (slice_get ranks.now peer) }
+fn rank_is_late(request: &GroupRequest<'_>, peer: u8) -> bool
+    ensures { result ≡ is_late request.now.own.now (slice_get request.now.ranks.now peer) }
 {
-    match ranks.get(peer as usize) {
-        Some(peer) => all_are_late(&peer.requests, own),
+    match request.ranks.get(peer as usize) {
+        Some(peer) => all_are_late(&peer.requests, request.own),
         None => false,
     }
 }

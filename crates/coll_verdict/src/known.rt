@@ -9,17 +9,17 @@ use std::alloc::{AllocError, Global};
 
 /// What the commands of a rank say of a request.
 #[derive(Debug, Drop)]
-pub(crate) struct KnownRequest {
-    pub(crate) comm: u8,
+pub struct KnownRequest {
+    pub comm: u8,
     /// How many requests the rank made on the communicator before.
-    pub(crate) place: usize,
-    pub(crate) sig: Signature,
+    pub place: usize,
+    pub sig: Signature,
     /// How often it was started; a post is a start.
-    pub(crate) starts: usize,
+    pub starts: usize,
     /// Whether a `wait` or a `waitall` has named it since.
-    pub(crate) is_rested: bool,
+    pub is_rested: bool,
     /// Whether any call that completes requests has named it since.
-    pub(crate) is_named: bool,
+    pub is_named: bool,
 }
 
 impl KnownRequest {
@@ -37,7 +37,7 @@ impl KnownRequest {
 
 /// What the first `stand` of a rank's commands say of its requests, in the order in which they are made; none where they
 /// aren't that many, or start a request that isn't made. For each request the cost is linear in those made before.
-pub(crate) fn known_requests(
+pub fn known_requests(
     alloc: Global,
     commands: &[Command],
     stand: usize,

@@ -13,9 +13,10 @@
 //!
 //! | Module | Has |
 //! |---|---|
-//! | `known` | `KnownRequest`: what the commands of a rank say of a request |
+//! | `known` | [`KnownRequest`]: what the commands of a rank say of a request |
 //! | `library` | [`Library`]: what is known of a library's calls |
-//! | `stood` | `Stood`: a rank at its stand |
+//! | `stood` | [`Stood`]: a rank at its stand |
+//! | `view` | [`View`]: what is known of all ranks, by which a rank's next command is judged |
 //! | `checking` | whether ranks at their stands can go on |
 //! | `order` | ranks that carry their commands out, each when it can |
 //! | `giving` | whether all members have something to give |
@@ -42,6 +43,12 @@ mod library;
 mod order;
 mod stood;
 mod verdict;
+mod view;
 
+pub use checking::{all_stay, stays};
+pub use known::{KnownRequest, known_requests};
 pub use library::{HeardRows, Library};
+pub use order::{are_apart, are_at_beginnings, are_at_ends, can_go_on, go_on, pass};
+pub use stood::{Stood, stand_all};
 pub use verdict::{always_stalls, always_stalls_by, never_stalls, never_stalls_by};
+pub use view::View;

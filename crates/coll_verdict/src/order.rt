@@ -14,12 +14,13 @@ ghost use Rattle.coll_verdict.specs.Code.{Advances, AreStood, IsAhead};
 use crate::known::{KnownRequest, note, place_on};
 use crate::library::{HeardRows, Library};
 use crate::stood::Stood;
+use crate::view::{GroupRequest, View};
 use coll_kinds::member_of;
 use coll_parser::{Command, Named};
 use std::alloc::AllocError;
 
 /// Lets a rank carry its next command out. Returns whether it could.
-pub(crate) fn pass(
+pub fn pass(
     library: &Library,
     ranks: &mut Vec<Stood>,
     groups: &[Vec<u8>],
@@ -31,7 +32,12 @@ pub(crate) fn pass(
     if rank as usize >= ranks.len() {
         return Ok(false);
     }
-    if !can_go_on(library, ranks, groups, &ranks[rank as usize]) {
+    let view = View {
+        library,
+        ranks: ranks.as_slice(),
+        groups,
+    };
+    if !can_go_on(&view, &ranks[rank as usize]) {
         return Ok(false);
     }
     let own = &mut ranks[rank as usize];
@@ -40,21 +46,21 @@ pub(crate) fn pass(
 }
 
 /// Whether no rank has carried anything out.
-pub(crate) fn are_at_beginnings(ranks: &[Stood]) -> bool
+pub fn are_at_beginnings(ranks: &[Stood]) -> bool
     ensures { result ≡ list_all is_at_beginning ranks.now }
 {
     ranks.iter().all(|own| own.stand == 0)
 }
 
 /// Whether each rank has carried all its commands out.
-pub(crate) fn are_at_ends(ranks: &[Stood]) -> bool
+pub fn are_at_ends(ranks: &[Stood]) -> bool
     ensures { result ≡ list_all is_at_end ranks.now }
 {
     ranks.iter().all(|own| own.stand == own.commands.len())
 }
 
 /// Takes in a rank's next command. Returns whether there is one, and the request that it starts was made.
-fn go_on(own: &mut Stood) -> Result<bool, AllocError>
+pub fn go_on(own: &mut Stood) -> Result<bool, AllocError>
     ensures { IfOk result (λ has_gone. IsTrue has_gone → IsAhead own.old own.new) }
 {
     let Some(command) = own.commands.get(own.stand) else {
@@ -70,53 +76,40 @@ fn go_on(own: &mut Stood) -> Result<bool, AllocError>
     Ok(true)
 }
 
-fn can_go_on(library: &Library, ranks: &[Stood], groups: &[Vec<u8>], own: &Stood) -> bool
-    ensures { result ≡ next_can_pass library.now ranks.now groups.now own.now (slice_get own.now.commands.items own.now.stand) }
+/// Whether a rank can carry its next command out.
+pub fn can_go_on(view: &View<'_>, own: &Stood) -> bool
+    ensures { result ≡ next_can_pass view.now.library.now view.now.ranks.now view.now.groups.now own.now (slice_get own.now.commands.items own.now.stand) }
 {
     match own.commands.get(own.stand) {
-        Some(command) => can_pass(library, ranks, groups, own, command),
+        Some(command) => can_pass(view, own, command),
         None => false,
     }
 }
 
-fn can_pass(
-    library: &Library,
-    ranks: &[Stood],
-    groups: &[Vec<u8>],
-    own: &Stood,
-    command: &Command,
-) -> bool
-    ensures { result ≡ can_pass library.now ranks.now groups.now own.now command.now }
+fn can_pass(view: &View<'_>, own: &Stood, command: &Command) -> bool
+    ensures { result ≡ can_pass view.now.library.now view.now.ranks.now view.now.groups.now own.now command.now }
 {
     match command {
         Command::Post { .. } | Command::Start { .. } => true,
         Command::Test(_) | Command::Free(_) => true,
-        Command::Init { comm, .. } => init_returns(library, ranks, groups, own, *comm),
-        Command::Wait(q) => is_free(library, ranks, groups, own, *q as usize),
+        Command::Init { comm, .. } => init_returns(view, own, *comm),
+        Command::Wait(q) => is_free(view, own, *q as usize),
         Command::WaitAny(named) => {
-            all_are_free(library, ranks, groups, own, named)
-                || one_is_sure(library, ranks, groups, own, named)
+            all_are_free(view, own, named) || one_is_sure(view, own, named)
         }
         Command::WaitSome(named) => {
-            all_are_free(library, ranks, groups, own, named)
-                || one_is_sure(library, ranks, groups, own, named)
+            all_are_free(view, own, named) || one_is_sure(view, own, named)
         }
-        Command::WaitAll(named) => all_are_free(library, ranks, groups, own, named),
+        Command::WaitAll(named) => all_are_free(view, own, named),
     }
 }
 
 /// Whether an initialisation returns: with any library once all members have come to it.
-fn init_returns(
-    library: &Library,
-    ranks: &[Stood],
-    groups: &[Vec<u8>],
-    own: &Stood,
-    comm: u8,
-) -> bool
-    ensures { result ≡ init_returns library.now ranks.now groups.now own.now comm }
+fn init_returns(view: &View<'_>, own: &Stood, comm: u8) -> bool
+    ensures { result ≡ init_returns view.now.library.now view.now.ranks.now view.now.groups.now own.now comm }
 {
-    match library {
-        Library::Any => all_come(ranks, groups, own, comm),
+    match view.library {
+        Library::Any => all_come(view.ranks, view.groups, own, comm),
         Library::Hears(_) => true,
     }
 }
@@ -211,173 +204,133 @@ fn makes_on(command: &Command, on: u8) -> bool
     }
 }
 
-fn all_are_free(
-    library: &Library,
-    ranks: &[Stood],
-    groups: &[Vec<u8>],
-    own: &Stood,
-    named: &Named,
-) -> bool
-    ensures { result ≡ list_all (free_at library.now ranks.now groups.now own.now) named.now }
+fn all_are_free(view: &View<'_>, own: &Stood, named: &Named) -> bool
+    ensures { result ≡ list_all (free_at view.now.library.now view.now.ranks.now view.now.groups.now own.now) named.now }
 {
     let mut holds = true;
     for index in 0..named.len() {
-        holds = holds && is_free(library, ranks, groups, own, named.get(index));
+        holds = holds && is_free(view, own, named.get(index));
     }
     holds
 }
 
-fn one_is_sure(
-    library: &Library,
-    ranks: &[Stood],
-    groups: &[Vec<u8>],
-    own: &Stood,
-    named: &Named,
-) -> bool
-    ensures { result ≡ list_any (sure_at library.now ranks.now groups.now own.now) named.now }
+fn one_is_sure(view: &View<'_>, own: &Stood, named: &Named) -> bool
+    ensures { result ≡ list_any (sure_at view.now.library.now view.now.ranks.now view.now.groups.now own.now) named.now }
 {
     let mut is_found = false;
     for index in 0..named.len() {
-        is_found = is_found || is_sure(library, ranks, groups, own, named.get(index));
+        is_found = is_found || is_sure(view, own, named.get(index));
     }
     is_found
 }
 
 /// Whether a request is inactive, or whom it awaits has come to its start.
-fn is_free(library: &Library, ranks: &[Stood], groups: &[Vec<u8>], own: &Stood, q: usize) -> bool
-    ensures { result ≡ free_at library.now ranks.now groups.now own.now q }
+fn is_free(view: &View<'_>, own: &Stood, q: usize) -> bool
+    ensures { result ≡ free_at view.now.library.now view.now.ranks.now view.now.groups.now own.now q }
 {
     match own.requests.get(q) {
         Some(request) => request.starts == 0
             || request.is_rested
-            || is_joined(library, ranks, groups, own.rank, request),
+            || is_joined(view, own.rank, request),
         None => false,
     }
 }
 
 /// Whether a request is active in every run, and whom it awaits has come to its start.
-fn is_sure(library: &Library, ranks: &[Stood], groups: &[Vec<u8>], own: &Stood, q: usize) -> bool
-    ensures { result ≡ sure_at library.now ranks.now groups.now own.now q }
+fn is_sure(view: &View<'_>, own: &Stood, q: usize) -> bool
+    ensures { result ≡ sure_at view.now.library.now view.now.ranks.now view.now.groups.now own.now q }
 {
     match own.requests.get(q) {
         Some(request) => request.starts > 0
             && !request.is_named
-            && is_joined(library, ranks, groups, own.rank, request),
+            && is_joined(view, own.rank, request),
         None => false,
     }
 }
 
-fn is_joined(
-    library: &Library,
-    ranks: &[Stood],
-    groups: &[Vec<u8>],
-    rank: u8,
-    own: &KnownRequest,
-) -> bool
-    ensures { result ≡ is_joined library.now ranks.now groups.now rank own.now }
+fn is_joined(view: &View<'_>, rank: u8, own: &KnownRequest) -> bool
+    ensures { result ≡ is_joined view.now.library.now view.now.ranks.now view.now.groups.now rank own.now }
 {
-    match groups.get(own.comm as usize) {
-        Some(group) => joined_by(library, ranks, group, rank, own),
-        None => false,
-    }
+    let Some(group) = view.groups.get(own.comm as usize) else {
+        return false;
+    };
+    let request = GroupRequest {
+        ranks: view.ranks,
+        group: group.as_slice(),
+        own,
+    };
+    joined_by(view.library, &request, rank)
 }
 
-fn joined_by(library: &Library, ranks: &[Stood], group: &[u8], rank: u8, own: &KnownRequest) -> bool
-    ensures { result ≡ joined_by library.now ranks.now group.now rank own.now }
+fn joined_by(library: &Library, request: &GroupRequest<'_>, rank: u8) -> bool
+    ensures { result ≡ joined_by library.now request.now.ranks.now request.now.group.now rank request.now.own.now }
 {
     match library {
-        Library::Any => all_have_begun(ranks, group, own),
-        Library::Hears(tables) => joined_member(tables, ranks, group, own, member_of(rank, group)),
+        Library::Any => all_have_begun(request),
+        Library::Hears(tables) => joined_member(tables, request, member_of(rank, request.group)),
     }
 }
 
-fn all_have_begun(ranks: &[Stood], group: &[u8], own: &KnownRequest) -> bool
-    ensures { result ≡ list_all (peer_has_begun ranks.now own.now) group.now }
+fn all_have_begun(request: &GroupRequest<'_>) -> bool
+    ensures { result ≡ list_all (peer_has_begun request.now.ranks.now request.now.own.now) request.now.group.now }
 {
-    group.iter().all(|peer| peer_has_begun(ranks, own, *peer))
+    request
+        .group
+        .iter()
+        .all(|peer| peer_has_begun(request, *peer))
 }
 
-fn joined_member(
-    tables: &[HeardRows],
-    ranks: &[Stood],
-    group: &[u8],
-    own: &KnownRequest,
-    member: Option<usize>,
-) -> bool
-    ensures { result ≡ joined_member tables.now ranks.now group.now own.now member }
+fn joined_member(tables: &[HeardRows], request: &GroupRequest<'_>, member: Option<usize>) -> bool
+    ensures { result ≡ joined_member tables.now request.now.ranks.now request.now.group.now request.now.own.now member }
 {
     match member {
-        Some(member) => joined_by_some(tables, ranks, group, own, member),
+        Some(member) => joined_by_some(tables, request, member),
         None => false,
     }
 }
 
-fn joined_by_some(
-    tables: &[HeardRows],
-    ranks: &[Stood],
-    group: &[u8],
-    own: &KnownRequest,
-    member: usize,
-) -> bool
-    ensures { result ≡ list_any (joined_heard ranks.now group.now own.now member) tables.now }
+fn joined_by_some(tables: &[HeardRows], request: &GroupRequest<'_>, member: usize) -> bool
+    ensures { result ≡ list_any (joined_heard request.now.ranks.now request.now.group.now request.now.own.now member) tables.now }
 {
     tables
         .iter()
-        .any(|table| joined_heard(table, ranks, group, own, member))
+        .any(|table| joined_heard(table, request, member))
 }
 
 /// Whether this is the collective's table, and whom the request of a member waits for by it has come to its start.
-fn joined_heard(
-    table: &HeardRows,
-    ranks: &[Stood],
-    group: &[u8],
-    own: &KnownRequest,
-    member: usize,
-) -> bool
-    ensures { result ≡ joined_heard ranks.now group.now own.now member table.now }
+fn joined_heard(table: &HeardRows, request: &GroupRequest<'_>, member: usize) -> bool
+    ensures { result ≡ joined_heard request.now.ranks.now request.now.group.now request.now.own.now member table.now }
 {
-    table.is_of(&own.sig, group.len()) && all_joined_told(table, ranks, group, own, member)
+    table.is_of(&request.own.sig, request.group.len()) && all_joined_told(table, request, member)
 }
 
-fn all_joined_told(
-    table: &HeardRows,
-    ranks: &[Stood],
-    group: &[u8],
-    own: &KnownRequest,
-    member: usize,
-) -> bool
-    ensures { result ≡ list_all (joined_told ranks.now group.now own.now member table.now) (range_with_len 0 (length group.now)) }
+fn all_joined_told(table: &HeardRows, request: &GroupRequest<'_>, member: usize) -> bool
+    ensures { result ≡ list_all (joined_told request.now.ranks.now request.now.group.now request.now.own.now member table.now)
+        (range_with_len 0 (length request.now.group.now)) }
 {
-    (0..group.len()).all(|other| joined_told(table, ranks, group, own, member, other))
+    (0..request.group.len()).all(|other| joined_told(table, request, member, other))
 }
 
-fn joined_told(
-    table: &HeardRows,
-    ranks: &[Stood],
-    group: &[u8],
-    own: &KnownRequest,
-    member: usize,
-    other: usize,
-) -> bool
-    ensures { result ≡ joined_told ranks.now group.now own.now member table.now other }
+fn joined_told(table: &HeardRows, request: &GroupRequest<'_>, member: usize, other: usize) -> bool
+    ensures { result ≡ joined_told request.now.ranks.now request.now.group.now request.now.own.now member table.now other }
 {
-    table.says_no(member, other) || member_has_begun(ranks, group, own, other)
+    table.says_no(member, other) || member_has_begun(request, other)
 }
 
-fn member_has_begun(ranks: &[Stood], group: &[u8], own: &KnownRequest, member: usize) -> bool
-    ensures { result ≡ member_has_begun ranks.now own.now (slice_get group.now member) }
+fn member_has_begun(request: &GroupRequest<'_>, member: usize) -> bool
+    ensures { result ≡ member_has_begun request.now.ranks.now request.now.own.now (slice_get request.now.group.now member) }
 {
-    match group.get(member) {
-        Some(peer) => peer_has_begun(ranks, own, *peer),
+    match request.group.get(member) {
+        Some(peer) => peer_has_begun(request, *peer),
         None => false,
     }
 }
 
-fn peer_has_begun(ranks: &[Stood], own: &KnownRequest, peer: u8) -> bool
-    ensures { result ≡ peer_has_begun ranks.now own.now peer }
+fn peer_has_begun(request: &GroupRequest<'_>, peer: u8) -> bool
+    ensures { result ≡ peer_has_begun request.now.ranks.now request.now.own.now peer }
 {
-    match ranks.get(peer as usize) {
-        Some(peer) => has_come(peer, own),
+    match request.ranks.get(peer as usize) {
+        Some(peer) => has_come(peer, request.own),
         None => false,
     }
 }
@@ -413,7 +366,7 @@ fn has_begun(requests: &[KnownRequest], q: usize, own: &KnownRequest) -> bool
 }
 
 /// Whether no rank is a member of a communicator twice.
-pub(crate) fn are_apart(groups: &[Vec<u8>]) -> bool
+pub fn are_apart(groups: &[Vec<u8>]) -> bool
     ensures { result ≡ are_apart groups.now }
 {
     (0..groups.len()).all(|comm| is_apart(groups, comm))

@@ -7,21 +7,21 @@ use std::alloc::{AllocError, Global};
 
 /// A rank at its stand.
 #[derive(Debug, Drop)]
-pub(crate) struct Stood {
-    pub(crate) rank: u8,
-    pub(crate) commands: Vec<Command>,
+pub struct Stood {
+    pub rank: u8,
+    pub commands: Vec<Command>,
     /// How many of its commands it has carried out.
-    pub(crate) stand: usize,
+    pub stand: usize,
     /// What these say of its requests.
-    pub(crate) requests: Vec<KnownRequest>,
+    pub requests: Vec<KnownRequest>,
     /// For each communicator the numbers of the requests that all its commands make there, in their order. Nothing rests on
     /// them but the time that a search takes.
-    pub(crate) numbers: Vec<Vec<usize>>,
+    pub numbers: Vec<Vec<usize>>,
 }
 
 /// All ranks at these stands; none where they aren't stands of the history's ranks. Each rank's cost is linear in all
 /// commands, and quadratic in its requests.
-pub(crate) fn stand_all(
+pub fn stand_all(
     alloc: Global,
     history: &History,
     stands: &[usize],

@@ -8,6 +8,7 @@ use crate::giving::all_issue;
 use crate::library::Library;
 use crate::order::{are_apart, are_at_beginnings, are_at_ends, pass};
 use crate::stood::{Stood, stand_all};
+use crate::view::View;
 use coll_parser::History;
 use std::alloc::{AllocError, Global};
 
@@ -46,7 +47,12 @@ fn are_final(library: &Library, history: &History, groups: &[Vec<u8>], ranks: &[
     if !all_issue(library, groups, history.commands()) {
         return false;
     }
-    one_is_short(ranks) && all_stay(library, ranks, groups)
+    let view = View {
+        library,
+        ranks,
+        groups,
+    };
+    one_is_short(ranks) && all_stay(&view)
 }
 
 /// Whether this order of ranks shows that no run of the job stalls, with whatever library: each time that a rank is named it

@@ -61,7 +61,9 @@ fn status_of(lines: &[u8]) -> u8 {
         || lines.starts_with(b"by this engine's schedules every run stalls")
     {
         3
-    } else if lines.starts_with(b"warning: may stall") {
+    } else if lines.starts_with(b"warning: may stall")
+        || lines.starts_with(b"stalls in some runs")
+    {
         6
     } else {
         0

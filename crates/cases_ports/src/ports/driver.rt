@@ -365,7 +365,7 @@ impl<L: Entries> PortDriver<L> {
         PortAnswer::Accepted
     }
 
-    fn work<R: Wait>(&self, rt: &R) -> Result<PortAnswer, Refusal> {
+    fn work<R: Wait + Clock>(&self, rt: &R) -> Result<PortAnswer, Refusal> {
         Ok(PortAnswer::Worked(self.engine.work(rt, &NoGate)?))
     }
 

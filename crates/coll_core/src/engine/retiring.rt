@@ -1,10 +1,10 @@
 //! Completions.
 
-ghost use Rattle.std.specs.Prelude.{◌≡◌, Some, true, length, IfOk, IfErr, IfSome, OnErr, IsNone};
+ghost use Rattle.std.specs.Prelude.{◌≡◌, Some, true, length, IfOk, IfErr, IfSome, IsTrue, OnErr, IsNone};
 ghost use Rattle.std.specs.Result.{result_err};
 ghost use Rattle.coll_lists.specs.Moves.{moved_back};
 ghost use Rattle.coll_arena.specs.Slots.{home, names, record_in};
-ghost use Rattle.coll_match.specs.Instances.{given};
+ghost use Rattle.coll_match.specs.Instances.{IsJoined, given};
 ghost use Rattle.coll_machine.specs.Calls.{Outcome as Completed, Nothing, Retire};
 ghost use Rattle.coll_machine.specs.Machines.{MachineStep};
 ghost use Rattle.coll_machine.specs.Refusals.{refusal};
@@ -12,7 +12,7 @@ ghost use Rattle.coll_sched.specs.Regions.{Inside, read_of};
 ghost use Rattle.coll_refinement.specs.Engines.{Rests};
 ghost use Rattle.coll_refinement.specs.Requests.{key};
 ghost use Rattle.coll_core.specs.Buffers.{HasRoom};
-ghost use Rattle.coll_core.specs.Completions.{GivesUp, IsOutcome};
+ghost use Rattle.coll_core.specs.Completions.{GivesUp, IsGathering, IsKnown, IsOutcome};
 ghost use Rattle.coll_core.specs.Cores.{seen, setting};
 ghost use Rattle.coll_core.specs.Progress.{KeepsProgress};
 ghost use Rattle.coll_core.specs.Requests.{schedule, shown};
@@ -112,9 +112,11 @@ impl Core {
         let key = request.key();
         let hint = request.hint;
         let member = request.plan.member();
-        let known = root_row(&self.matches, request);
+        let kind = request.plan.sig().kind;
+        let known = known_outcome(&self.matches, request);
         let (bytes, room) = give_up(&mut self.arena, self.alloc, ticket, known);
-        let is_over = self.matches.leave(key, hint, member);
+        let joined = joined_by(kind, &bytes);
+        let is_over = self.matches.leave(key, hint, member, joined);
         forget(&mut self.results, key, is_over);
         let outcome = Outcome {
             rank,
@@ -125,6 +127,48 @@ impl Core {
         };
         Ok(Some((outcome, room)))
     }
+}
+
+/// Returns a further owner of a Done request's outcome, if the instance has its bytes: of a bcast
+/// what the root gave, of an allgather what a member joined that has left.
+fn known_outcome(matches: &Matches, request: &Request) -> Option<Bytes>
+    ensures { IfSome result (IsKnown matches.now request.now) }
+{
+    match root_row(matches, request) {
+        Some(bytes) => Some(bytes),
+        None => joined_rows(matches, request),
+    }
+}
+
+/// Returns the value of a Done allgather or allgatherv, if a member that has left had joined the
+/// rows. None for other kinds.
+fn joined_rows(matches: &Matches, request: &Request) -> Option<Bytes>
+    ensures kind { IfSome result (λ bytes. IsGathering request.now.plan.sig.kind) }
+    ensures joined { IfSome result (IsJoined matches.now (key (shown request.now))) }
+{
+    if !is_gathering(request.plan.sig().kind) {
+        return None;
+    }
+    matches.share_joined(request.key(), request.hint)
+}
+
+/// Tells whether each member's outcome is what all members gave, joined.
+fn is_gathering(kind: Kind) -> bool
+    ensures { IsTrue result → IsGathering kind }
+{
+    kind == Kind::Allgather || kind == Kind::Allgatherv
+}
+
+/// Returns a further owner of the outcome of an allgather or allgatherv, for the members that
+/// complete later. None for other kinds, and if the bytes' block doesn't count its owners.
+fn joined_by(kind: Kind, bytes: &Bytes) -> Option<Bytes>
+    ensures kind { IfSome result (λ joined. IsGathering kind) }
+    ensures same { IfSome result (λ joined. joined ≡ bytes.now) }
+{
+    if !is_gathering(kind) {
+        return None;
+    }
+    bytes.share_counted()
 }
 
 /// Returns the value of a Done bcast: a further owner of its root's contribution. None for other

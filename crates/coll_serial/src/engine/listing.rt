@@ -41,10 +41,7 @@ impl Engine {
             (λ first. IfSome (position_of first)
             (λ position. CompletesOne (setting self.old) rank (seen self.old) (seen self.new) position parts.old parts.new out.old out.new)) }
     {
-        let survey = match self.survey(rank, parts) {
-            Ok(survey) => survey,
-            Err(why) => return Err(why),
-        };
+        let survey = self.survey(rank, parts)?;
         let Some(position) = survey.done else {
             return Ok(if survey.active {
                 First::Unfinished
@@ -83,10 +80,7 @@ impl Engine {
         ensures completes { IfOk result
             (λ count. OnSome count (CompletesParts (setting self.old) rank (seen self.old) (seen self.new) parts.old parts.new out.old out.new)) }
     {
-        let survey = match self.survey(rank, parts) {
-            Ok(survey) => survey,
-            Err(why) => return Err(why),
-        };
+        let survey = self.survey(rank, parts)?;
         if !survey.active {
             return Ok(None);
         }
@@ -116,10 +110,7 @@ impl Engine {
         ensures completes { IfOk result
             (λ flag. OnTrue flag (CompletesParts (setting self.old) rank (seen self.old) (seen self.new) parts.old parts.new out.old out.new)) }
     {
-        let survey = match self.survey(rank, parts) {
-            Ok(survey) => survey,
-            Err(why) => return Err(why),
-        };
+        let survey = self.survey(rank, parts)?;
         if survey.pending {
             return Ok(false);
         }

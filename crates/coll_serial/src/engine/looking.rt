@@ -44,10 +44,7 @@ impl Engine {
             pending: false,
         };
         for (position, part) in parts.iter().enumerate() {
-            match self.phase_of(rank, part) {
-                Ok(phase) => add(&mut survey, position, phase),
-                Err(why) => return Err(why),
-            }
+            add(&mut survey, position, self.phase_of(rank, part)?);
         }
         Ok(survey)
     }

@@ -38,10 +38,7 @@ impl Engine {
         ensures plan { IfOk result (λ plan. planned plan ≡ planned_for (setting self.old) rank comm sig) }
         ensures refused { IfErr result (λ why. (early_refusal (setting self.old) rank comm sig ≡ Some why) ⊎ (why ≡ Refusal.NoMemory)) }
     {
-        let seat = match self.communicators.seat(comm, rank) {
-            Ok(seat) => seat,
-            Err(why) => return Err(why),
-        };
+        let seat = self.communicators.seat(comm, rank)?;
         match self.plans.get_mut(rank as usize) {
             Some(plans) => plans.plan_of(&sig, seat.size, seat.member),
             None => plan(self.alloc, sig, seat.size, seat.member),
@@ -98,10 +95,7 @@ impl Engine {
         ensures refused { IfErr result (Denies (setting self.old) (seen self.old) (post_by (setting self.old) rank comm sig bytes.now)) }
         ensures err { OnErr result (seen self.new ≡ seen self.old) }
     {
-        let plan = match self.plan(rank, comm, sig) {
-            Ok(plan) => plan,
-            Err(why) => return Err(why),
-        };
+        let plan = self.plan(rank, comm, sig)?;
         let bytes = Contribution::copy(self.alloc, bytes)?;
         match self.post_planned(rank, comm, plan, bytes) {
             Ok(made) => Ok(made),
@@ -149,10 +143,7 @@ impl Engine {
         ensures refused { IfErr result (Denies (setting self.old) (seen self.old) (init_by (setting self.old) rank comm sig)) }
         ensures err { OnErr result (seen self.new ≡ seen self.old) }
     {
-        let plan = match self.plan(rank, comm, sig) {
-            Ok(plan) => plan,
-            Err(why) => return Err(why),
-        };
+        let plan = self.plan(rank, comm, sig)?;
         let outcome_len = outcome_len(&plan);
         match self.core.init(rank, comm, plan) {
             Ok(ticket) => {

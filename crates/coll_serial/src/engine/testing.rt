@@ -61,10 +61,7 @@ impl Engine {
     {
         self.check_room(rank, request, room)?;
         lock_is_free(&self.core);
-        let Tested { flag, outcome } = match test(&mut self.core, rank, request) {
-            Ok(tested) => tested,
-            Err(why) => return Err(why),
-        };
+        let Tested { flag, outcome } = test(&mut self.core, rank, request)?;
         let Some(outcome) = outcome else {
             return Ok(Taken::without_outcome(flag));
         };

@@ -4,4 +4,4 @@ use Rattle.coll_verdict.specs.Checking.{awaited_at}
 use Rattle.coll_verdict.proofs.checking.one_is_awaited.Given as goal
 
 abbrev pub invariant-loop-index : goal.invariant-loop-index
-invariant-loop-index l = l.is_found ≡ list_any (awaited_at l.library l.ranks l.groups l.own) (take l.index l.named)
+invariant-loop-index l = l.is_found ≡ list_any (awaited_at l.view.library.now l.view.ranks.now l.view.groups.now l.own) (take l.index l.named)

@@ -1,6 +1,7 @@
 use Rattle.std.proofs.Common.{◌+◌, ◌*◌, refl, arith, ap}
+use Rattle.coll_kinds.specs.declared.signature.Signature.{Signature}
 use Rattle.coll_core.proofs.between.LiveRequests.{list_in}
-use Rattle.coll_core.proofs.retire.RootRow.{known_outcome}
+use Rattle.coll_core.proofs.retire.RootRow.{known_outcome, leaves_joined}
 use Rattle.coll_core.proofs.retire.Retire.{completes, gives_up, kept, on_done, owned, retires_alone, seated, waits}
 use Rattle.coll_match.specs.Instances.{LookUps}
 use Rattle.coll_core.proofs.engine.Core.complete.Goals as goal
@@ -30,10 +31,19 @@ give_up-bytes-requires-clause-known c =
     c.in_ok-request.ensures.refused c.in_ok-request.ensures.named c.in_ok-request.ensures.found in
     let on = on_done c.self.inside.arena c.args.ticket (6 + 3 * c.in_ok-request.request.now.comm) c.if-not-is_on.ensures in
     known_outcome _ c.args.rank c.args.ticket c.in_ok-request.request.now c.self.invariant owns on
-    c.root_row-known.result c.root_row-known.ensures.kind c.root_row-known.ensures.given
+    c.known_outcome-known.result c.known_outcome-known.ensures
 
-pub leave-is_over-requires : goal.leave-is_over-requires
-leave-is_over-requires c =
+pub leave-is_over-requires-clause-joined : goal.leave-is_over-requires-clause-joined
+leave-is_over-requires-clause-joined c =
+    let owns = owned _ c.args.self.now c.args.rank c.args.ticket c.in_ok-request.request.now c.self.view_is
+    c.in_ok-request.ensures.refused c.in_ok-request.ensures.named c.in_ok-request.ensures.found in
+    let on = on_done c.self.inside.arena c.args.ticket (6 + 3 * c.in_ok-request.request.now.comm) c.if-not-is_on.ensures in
+    leaves_joined _ c.args.rank c.args.ticket c.in_ok-request.request.now c.self.invariant owns on
+    c.key-key.result c.sig.result.now.kind c.give_up-bytes.result.0 c.joined_by-joined.result c.key-key.ensures
+    (ap (λ (s : Signature). s.kind) c.sig.ensures.sig) c.give_up-bytes.ensures.bytes c.joined_by-joined.ensures.kind c.joined_by-joined.ensures.same
+
+pub leave-is_over-requires-clause-seated : goal.leave-is_over-requires-clause-seated
+leave-is_over-requires-clause-seated c =
     let owns = owned _ c.args.self.now c.args.rank c.args.ticket c.in_ok-request.request.now c.self.view_is
     c.in_ok-request.ensures.refused c.in_ok-request.ensures.named c.in_ok-request.ensures.found in
     let on = on_done c.self.inside.arena c.args.ticket (6 + 3 * c.in_ok-request.request.now.comm) c.if-not-is_on.ensures in

@@ -2,7 +2,7 @@ use Rattle.std.proofs.Common.{◌∙◌, ◌<◌, length, ap, refl, Some}
 use Rattle.coll_match.specs.declared.instance.Share.{Share}
 use Rattle.coll_sched.specs.Worlds.{put_mail}
 use Rattle.coll_match.specs.Held.{contribution_of, given_in, mail_in, seat_in, slot_of}
-use Rattle.coll_match.proofs.Shares.{low_share, mail_sent, parts_kept}
+use Rattle.coll_match.proofs.Shares.{low_share, mail_sent, parts_kept, share_joined}
 use Rattle.coll_match.proofs.instance.Instance.put.Goals as goal
 
 abbrev after : (c : goal.After-seated) → Share
@@ -29,3 +29,9 @@ returns-clause-mail c =
     mail_sent c.self.inside.shares.items c.from.result (after c) c.index_mut.result.now (low c) c.index_mut.ensures.value
     c.args.envelope.to c.args.envelope.round (Some c.args.message) c.in_ok-put.ensures.sent
     ∙ (λ z. put_mail (mail_in (c.self.view_is z)) (c.from.ensures z) c.args.envelope.to c.args.envelope.round (Some c.args.message))
+
+pub invariant_of-self-2 : goal.invariant_of-self-2
+invariant_of-self-2 c =
+    share_joined c.self.inside.joined c.self.inside.shares.items c.from.result
+    (record { given = c.index_mut.result.now.given; slot = c.index_mut.result.now.slot; mailbox = c.put.new.self }) c.index_mut.result.now
+    (low_share _ _ _ _ c.self.view_is c.requires.member c.from.ensures) c.index_mut.ensures.value refl c.self.invariant

@@ -1,8 +1,8 @@
-use Rattle.std.proofs.Common.{◌∙◌, ◌<◌, length, ap, refl, arith, None}
+use Rattle.std.proofs.Common.{◌∙◌, ◌<◌, ℕ, List, Option, length, ap, refl, sym, arith, None}
 use Rattle.coll_match.specs.declared.instance.Share.{Share}
 use Rattle.coll_sched.specs.Worlds.{put_mail}
-use Rattle.coll_match.specs.Held.{contribution_of, given_in, mail_in, seat_in, slot_of}
-use Rattle.coll_match.proofs.Shares.{mail_sent, parts_kept}
+use Rattle.coll_match.specs.Held.{contribution_of, given_in, mail_in, seat_in, sent_of, slot_of}
+use Rattle.coll_match.proofs.Shares.{mail_sent, part_read, parts_kept, share_joined}
 use Rattle.coll_match.proofs.instance.Instance.take.Goals as goal
 
 abbrev after : (c : goal.After-self-1) → Share
@@ -26,3 +26,15 @@ returns-clause-mail c =
     mail_sent c.self.inside.shares.items c.from-sender.result (after c) c.index_mut.result.now (low c) c.index_mut.ensures.value
     c.args.envelope.to c.args.envelope.round None c.take.ensures.sent
     ∙ (λ z. put_mail (mail_in (c.self.view_is z)) (c.from-sender.ensures z) c.args.envelope.to c.args.envelope.round None)
+
+pub invariant_of-self : goal.invariant_of-self
+invariant_of-self c =
+    share_joined c.self.inside.joined c.self.inside.shares.items c.from-sender.result (after c) c.index_mut.result.now
+    (low c) c.index_mut.ensures.value refl c.self.invariant
+
+pub returns-clause-taken : goal.returns-clause-taken
+returns-clause-taken c =
+    c.take.ensures.taken
+    ∙ ap (λ (f : ℕ → ℕ → Option (List ℕ)). f c.args.envelope.to c.args.envelope.round)
+    (sym (part_read sent_of c.self.inside.shares.items c.from-sender.result (after c) (low c) c.index_mut.result.now c.index_mut.ensures.value))
+    ∙ (λ z. mail_in (c.self.view_is z) (c.from-sender.ensures z) c.args.envelope.to c.args.envelope.round)

@@ -3,7 +3,8 @@ use Rattle.std.specs.Prelude.{is_some}
 use Rattle.coll_match.specs.Instances.{given, look_ups, mail, seats, standing}
 use Rattle.coll_match.proofs.Standing.{given_new, kept_members, mail_new, members_new, seats_new}
 use Rattle.coll_match.proofs.matches.Matches.room.Goals as goal
-use Rattle.coll_match.proofs.matches.Matches.room.Goals.{in-Some-1, in-None-1}
+use Rattle.coll_match.proofs.matches.Matches.room.Goals.{in-Some+in-Some-branch-4+in-Owned-1, in-Some+in-Some-branch-4+in-Shared-1}
+use Rattle.coll_match.proofs.matches.Matches.room.Goals.{in-Some+in-Some-branch-4+in-InPlace-1, in-Some+in-None-1, in-None-1}
 
 pub returns-else-not-stands-clause-room : goal.returns-else-not-stands-clause-room
 returns-else-not-stands-clause-room c =
@@ -11,7 +12,13 @@ returns-else-not-stands-clause-room c =
     (kept_members _ _ refl c.args.key c.args.n (sym c.stands.ensures ∙ c.if-not-stands.false))
 
 entered : (c : goal.Joined-branch-3) → c.match-branch-3.self ≡ c.insert.new.self.entries
-entered c = elim c.match-branch-3.branch [ in-Some-1 w ↦ w.self-is | in-None-1 w ↦ w.self-is ]
+entered c = elim c.match-branch-3.branch [
+  | in-Some+in-Some-branch-4+in-Owned-1 w ↦ w.self-is
+  | in-Some+in-Some-branch-4+in-Shared-1 w ↦ w.self-is
+  | in-Some+in-Some-branch-4+in-InPlace-1 w ↦ w.self-is
+  | in-Some+in-None-1 w ↦ w.self-is
+  | in-None-1 w ↦ w.self-is
+]
 
 absent : (c : goal.Joined-branch-3) → is_some (standing c.self.inside.instances.entries c.args.key) ≡ false
 absent c = ap (λ t. is_some (standing t c.args.key)) (c.self.view_is ∙ c.make.ensures.same) ∙ sym c.stands.ensures ∙ c.if-not-stands.true

@@ -1,9 +1,12 @@
-use Rattle.std.proofs.Common.{refl}
+use Rattle.std.proofs.Common.{refl, sym}
 use Rattle.coll_match.proofs.Standing.{given_kept, last, mail_kept, members_kept, sat, seats_put}
 use Rattle.coll_match.proofs.matches.Matches.unseat.Goals as goal
 
-pub leave-requires : goal.leave-requires
-leave-requires c = sat c.args.self.now c.args.self.now refl c.args.key c.in-Some.instance.now c.in-Some.ensures.value c.args.member c.requires
+pub leave-requires-clause-low : goal.leave-requires-clause-low
+leave-requires-clause-low c = sat c.args.self.now c.args.self.now refl c.args.key c.in-Some.instance.now c.in-Some.ensures.value c.args.member c.requires.seated
+
+pub leave-requires-clause-joined : goal.leave-requires-clause-joined
+leave-requires-clause-joined c bytes is = c.requires.joined bytes is c.in-Some.instance.now (sym c.in-Some.ensures.value)
 
 pub returns-clause-seat : goal.returns-clause-seat
 returns-clause-seat c = λ z. record {

@@ -16,10 +16,10 @@ returns-clause-refused c =
     elim c.match-get_mut.branch [
       | in-Some w ↦ subst (λ (o : Result Planned Refusal). IfErr o
           (λ why. (early_refusal (setting c.args.self.now) c.args.rank c.args.comm c.args.sig ≡ Some why) ⊎ (why ≡ NoMemory))) (sym w.result-is)
-          (plan_refused c.self.inside.communicators (setting c.args.self.now) c.args.rank c.args.comm c.in-Ok.seat.size
-          c.args.sig w.plan_of.result groups c.in-Ok.ensures.refused c.in-Ok.ensures.size w.plan_of.ensures.refusal)
+          (plan_refused c.self.inside.communicators (setting c.args.self.now) c.args.rank c.args.comm c.in_ok-seat.seat.size
+          c.args.sig w.plan_of.result groups c.in_ok-seat.ensures.refused c.in_ok-seat.ensures.size w.plan_of.ensures.refusal)
       | in-None w ↦ subst (λ (o : Result Planned Refusal). IfErr o
           (λ why. (early_refusal (setting c.args.self.now) c.args.rank c.args.comm c.args.sig ≡ Some why) ⊎ (why ≡ NoMemory))) (sym w.result-is)
-          (plan_refused c.self.inside.communicators (setting c.args.self.now) c.args.rank c.args.comm c.in-Ok.seat.size
-          c.args.sig w.plan.result groups c.in-Ok.ensures.refused c.in-Ok.ensures.size w.plan.ensures.refusal)
+          (plan_refused c.self.inside.communicators (setting c.args.self.now) c.args.rank c.args.comm c.in_ok-seat.seat.size
+          c.args.sig w.plan.result groups c.in_ok-seat.ensures.refused c.in_ok-seat.ensures.size w.plan.ensures.refusal)
     ]

@@ -1,0 +1,2 @@
+-- an explanation by all runs, or by some
+pub mod Saying
