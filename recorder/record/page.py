@@ -6,6 +6,7 @@ import json
 import os
 import re
 
+import run_lines
 from agreement import call_words
 from records import Unreadable
 from standing import COLLECTIVE, RECEIVE, SEND
@@ -34,7 +35,7 @@ def tone_of(kind):
 
 
 def empty_page(title, about, verdict, tone):
-    parts = {name: [] for name in ("findings", "waiting", "waits", "bars", "arrows", "tables")}
+    parts = {name: [] for name in ("findings", "waiting", "waits", "run", "bars", "arrows", "tables")}
     return {"title": title, "about": about, "verdict": verdict, "tone": tone, **parts}
 
 
@@ -53,6 +54,7 @@ def page_of_report(report):
     data = empty_page(f"wzrecord: {report.folder}", about, verdict, TONES[report.status])
     data["findings"] = [{"words": it.words, "lines": it.lines, "tone": tone_of(it.kind)} for it in report.findings if it.kind != "record"]
     add_waits(data, report)
+    data["run"] = next(filter(None, (run_lines.steps(it.lines) for it in report.findings)), [])
     add_times(data, report)
     return page(data)
 
@@ -210,6 +212,9 @@ def add_said(data, said, status):
         else:
             data["findings"][-1]["lines"].append(line)
     data["verdict"] = next((it["words"] for it in data["findings"] if it["tone"] == "bad"), data["findings"][0]["words"])
+    if data["tone"] == "good" and any(it["tone"] == "open" for it in data["findings"]):
+        data["tone"] = "open"
+    data["run"] = run_lines.steps(said.splitlines())
     cycle = re.search(r"wait for one another: ([\d >-]+)", said)
     ranks = [int(it) for it in cycle[1].split("->")] if cycle else []
     where = {rank: words for those, words in re.findall(r"ranks? ([\d, to and-]+) waits? in (.*)", said) for rank in numbers_of(those)}

@@ -257,7 +257,7 @@ class Report:
         if wide.stuck:
             self.lack(f"not sure: {UNDECIDED}:", wide.lines(self.places), "not sure")
         elif whole and verdict and verdict.stalls:
-            self.lack(f"not sure: {self.text_path} lets a library stall, by colljob explain --strict, but only one that doesn't complete the same requests as this one: what the program would call then isn't known", (), "not sure")
+            self.lack(f"not sure: {self.text_path} lets a library stall, by colljob explain --strict, but only one that doesn't complete the same requests as this one: what the program would call then isn't known", verdict.lines, "not sure")
         return self.say_no_fault()
 
     def find_unsafe(self):

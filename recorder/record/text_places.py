@@ -4,6 +4,7 @@ import collections
 import re
 import subprocess
 
+import run_lines
 from records import Unreadable
 
 # The comment that says where a call stands.
@@ -150,7 +151,8 @@ def judge(path, program, text=None):
     for line in run.stdout.splitlines():
         number = SHOWN.fullmatch(line)
         call = text.at(int(number[1])) if number else None
-        lines.append(f"{line}    # {call.where}" if call and call.where else line)
+        place = call.where if call else run_lines.places(text, line)
+        lines.append(f"{line}    # {place}" if place else line)
     unknown = bool(UNKNOWN.match(run.stdout))
     return Verdict(None, run.returncode != 0 and not unknown, unknown, lines)
 

@@ -82,6 +82,7 @@ struct rank {
     atomic_uint waits_begun;
     struct wait wait;
     int64_t wait_begun;
+    atomic_int planned;        /* the line of --schedule for whose requests it waits; 0: none */
     atomic_uint turns_in_vain; /* of waits for room */
     atomic_bool has_no_hope;   /* whoever watches says so: nobody makes room */
     atomic_uint wake; /* counts what may have let it go on; it sleeps until it changes */
@@ -106,6 +107,7 @@ struct run {
     double timeout;          /* seconds; 0: none */
     const char *text, *values;    /* the files for the job text and for what requests got; NULL: none */
     const char *trace, *timeline; /* and for what the run did */
+    const char *schedule, *schedule_out; /* that it follows, and the file for its own */
     const char *program;
 };
 

@@ -134,7 +134,7 @@ int post_and_wait(struct comm *comm, const struct arguments *arguments, struct r
     int code = post_call(comm, arguments, &request);
     if (code != MPI_SUCCESS) return code;
     request->kept = true;
-    record_wait("wait", &request, 1, request->name);
+    record_wait("wait", &request, NULL, 1, request->name);
     code = complete_request(request, MPI_STATUS_IGNORE, request->name);
     if (code != MPI_SUCCESS) drop_request(request);
     *kept = request;
@@ -153,6 +153,6 @@ int carry_out(MPI_Comm handle, const struct arguments *arguments, MPI_Request *r
         *request = publish(made);
         return code;
     }
-    record_wait("wait", &made, 1, made->name);
+    record_wait("wait", &made, NULL, 1, made->name);
     return complete_request(made, MPI_STATUS_IGNORE, made->name);
 }

@@ -88,7 +88,10 @@ struct request {
 
     /* ---- of a message */
     struct request *next_let_go; /* next is the mailbox's while it is under way */
-    int other, tag; /* whom it goes to or comes from, as the program said */
+    int other, tag; /* whom it goes to or comes from, as the program said, or as --schedule does of one from any source */
+    bool from_any;
+    int planned; /* the line of --schedule that says so; 0: none */
+    long step;   /* of the schedule that is kept, of one from any source */
     bool synchronous, cancelled;
     const void *from;
     void *to;

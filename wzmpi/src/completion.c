@@ -1,10 +1,9 @@
-/* The calls that complete requests, start and free them. */
-#include "collectives.h"
+/* The calls that wait for the requests that they name, start and free them. */
+#include "completion.h"
 #include "trace.h"
 #include "record.h"
 #include "diagnostics.h"
 #include "overlap.h"
-#include "test_loops.h"
 
 #include <time.h>
 
@@ -73,15 +72,6 @@ int complete_request(struct request *request, MPI_Status *status, const char *ca
     return code == WZ_DONE ? end_collective(request, call) : engine_refused(request, code, call);
 }
 
-/* A completion call that the text can't tell the outcome of completes a request. */
-static int complete_found(struct request *request, MPI_Status *status, const char *call) {
-    record_completed(request);
-    return complete_request(request, status, call);
-}
-
-/* Under --seed a test now and then says that nothing is done yet, as it may. */
-static bool holds_back(void) { return draw_number(4) == 1; }
-
 int MPI_Wait(MPI_Request *handle, MPI_Status *status) {
     this_rank("MPI_Wait");
     struct request *request;
@@ -92,59 +82,32 @@ int MPI_Wait(MPI_Request *handle, MPI_Status *status) {
     }
     hold_up();
     bool stays = request->persistent;
-    record_wait("wait", &request, 1, "MPI_Wait");
+    record_wait("wait", &request, handle, 1, "MPI_Wait");
+    if (!stays) record_place(handle, request);
     code = complete_request(request, status, "MPI_Wait");
     if (!stays) *handle = MPI_REQUEST_NULL;
     return code;
 }
 
-int MPI_Test(MPI_Request *handle, int *flag, MPI_Status *status) {
-    this_rank("MPI_Test");
-    struct request *request;
-    int code = find_request(*handle, "MPI_Test", &request);
-    *flag = code == MPI_SUCCESS && (request == NULL || !request->active);
-    if (code != MPI_SUCCESS || *flag) {
-        empty_status(status);
-        return code;
-    }
-    *flag = is_done(request) && !holds_back();
-    if (!*flag) {
-        test_in_vain("MPI_Test", &request, 1);
-        return code;
-    }
-    bool stays = request->persistent;
-    code = complete_found(request, status, "MPI_Test");
-    if (!stays) *handle = MPI_REQUEST_NULL;
-    return code;
-}
-
-int MPI_Request_get_status(MPI_Request handle, int *flag, MPI_Status *status) {
-    this_rank("MPI_Request_get_status");
-    struct request *request;
-    int code = find_request(handle, "MPI_Request_get_status", &request);
-    *flag = code == MPI_SUCCESS && (request == NULL || is_done(request));
-    if (code == MPI_SUCCESS && !*flag) test_in_vain("MPI_Request_get_status", &request, 1);
-    if (!*flag || request == NULL || !request->active) empty_status(status);
-    else show_status(request, status);
-    return code;
-}
-
 /* ---- lists of requests */
 
-/* A list is read as a whole before any of it changes. */
-struct list {
-    int many;
-    struct request **at, *few[32];
-};
-
-static void give_up(struct list *list) {
+void give_up_list(struct list *list) {
     if (list->at != list->few) free(list->at);
 }
 
-static int read_list(struct list *list, int many, MPI_Request handles[], const char *call) {
+int read_single(struct list *list, MPI_Request *handle, const char *call) {
+    this_rank(call);
+    list->many = 1;
+    list->handles = handle;
+    list->at = list->few;
+    return find_request(*handle, call, &list->at[0]);
+}
+
+int read_list(struct list *list, int many, MPI_Request handles[], const char *call) {
     this_rank(call);
     int code = MPI_SUCCESS, read = 0, twice = -1;
     list->many = many;
+    list->handles = handles;
     list->at = list->few;
     if (many < 0) return refuse(NULL, MPI_ERR_COUNT, call, "the count %d is negative", many);
     if (many > 32) list->at = must(malloc(sizeof *list->at * (size_t)many));
@@ -157,32 +120,32 @@ static int read_list(struct list *list, int many, MPI_Request handles[], const c
     for (int i = 0; i < read; i++)
         if (list->at[i] != NULL) list->at[i]->listed = false;
     if (code == MPI_SUCCESS && twice >= 0) code = refuse(NULL, MPI_ERR_REQUEST, call, "the request of %s stands twice in the list", list->at[twice]->site);
-    if (code != MPI_SUCCESS) give_up(list);
+    if (code != MPI_SUCCESS) give_up_list(list);
     return code;
 }
 
-static MPI_Status *status_at(MPI_Status *statuses, int i) { return statuses == MPI_STATUSES_IGNORE ? MPI_STATUS_IGNORE : &statuses[i]; }
+MPI_Status *status_at(MPI_Status *statuses, int i) { return statuses == MPI_STATUSES_IGNORE ? MPI_STATUS_IGNORE : &statuses[i]; }
 
-static int complete_one(struct list *list, int i, MPI_Request handles[], MPI_Status *status, const char *call) {
+int complete_one(struct list *list, int i, MPI_Status *status, const char *call) {
     bool stays = list->at[i]->persistent;
+    if (!stays) record_place(&list->handles[i], list->at[i]);
     int code = complete_request(list->at[i], status, call);
-    if (!stays) handles[i] = MPI_REQUEST_NULL;
+    if (!stays) list->handles[i] = MPI_REQUEST_NULL;
     list->at[i] = NULL;
     return code;
 }
 
-/* What came of one of several requests. */
-static void note_error(int *code, int one, MPI_Status *status) {
+void note_error(int *code, int one, MPI_Status *status) {
     if (status != MPI_STATUS_IGNORE) status->MPI_ERROR = one;
     if (one != MPI_SUCCESS) *code = status == MPI_STATUS_IGNORE ? one : MPI_ERR_IN_STATUS;
 }
 
-static int complete_all(struct list *list, MPI_Request handles[], MPI_Status statuses[], const char *call) {
+int complete_all(struct list *list, MPI_Status statuses[], const char *call) {
     int code = MPI_SUCCESS;
     for (int i = 0; i < list->many; i++) {
         empty_status(status_at(statuses, i));
         if (list->at[i] == NULL) continue;
-        note_error(&code, complete_one(list, i, handles, status_at(statuses, i), call), status_at(statuses, i));
+        note_error(&code, complete_one(list, i, status_at(statuses, i), call), status_at(statuses, i));
     }
     return code;
 }
@@ -192,129 +155,9 @@ int MPI_Waitall(int many, MPI_Request handles[], MPI_Status statuses[]) {
     int code = read_list(&list, many, handles, "MPI_Waitall");
     if (code != MPI_SUCCESS) return code;
     hold_up();
-    record_wait("waitall", list.at, many, "MPI_Waitall");
-    code = complete_all(&list, handles, statuses, "MPI_Waitall");
-    give_up(&list);
-    return code;
-}
-
-int MPI_Testall(int many, MPI_Request handles[], int *flag, MPI_Status statuses[]) {
-    struct list list;
-    int code = read_list(&list, many, handles, "MPI_Testall");
-    *flag = code == MPI_SUCCESS;
-    if (code != MPI_SUCCESS) return code;
-    int lacking = -1;
-    for (int i = 0; i < many && *flag; i++) {
-        *flag = list.at[i] == NULL || is_done(list.at[i]);
-        if (!*flag) lacking = i;
-    }
-    if (*flag) {
-        record_wait("waitall", list.at, many, "MPI_Testall");
-        code = complete_all(&list, handles, statuses, "MPI_Testall");
-    } else test_in_vain("MPI_Testall", &list.at[lacking], 1);
-    give_up(&list);
-    return code;
-}
-
-/* The active requests of a list, and those of them that are done. */
-struct found {
-    int active, many, *done;
-};
-
-static struct found find_done(struct list *list) {
-    struct found found = { 0, 0, must(malloc(sizeof(int) * (size_t)(list->many + 1))) };
-    for (int i = 0; i < list->many; i++) {
-        if (list->at[i] == NULL || !list->at[i]->active) continue;
-        found.active++;
-        if (is_done(list->at[i])) found.done[found.many++] = i;
-    }
-    return found;
-}
-
-/* Completes one of those that are done; under --seed any of them. */
-static int take_one(struct list *list, struct found *found, MPI_Request handles[], int *index, MPI_Status *status, const char *call) {
-    *index = found->done[draw_number((uint32_t)found->many)];
-    record_completed(list->at[*index]);
-    return complete_one(list, *index, handles, status, call);
-}
-
-/* Completes those that are done; under --seed some of them, though one at least. */
-static int take_some(struct list *list, struct found *found, MPI_Request handles[], int *taken, int indices[], MPI_Status statuses[], const char *call) {
-    int code = MPI_SUCCESS, surely = (int)draw_number((uint32_t)found->many);
-    *taken = 0;
-    for (int i = 0; i < found->many; i++) {
-        if (i != surely && draw_number(2) == 1) continue;
-        indices[*taken] = found->done[i];
-        record_completed(list->at[found->done[i]]);
-        MPI_Status *status = status_at(statuses, (*taken)++);
-        note_error(&code, complete_one(list, found->done[i], handles, status, call), status);
-    }
-    return code;
-}
-
-/* Waits until one of the list is done. */
-static struct found wait_for_some(struct list *list, const char *word, const char *call) {
-    hold_up();
-    record_wait(word, list->at, list->many, call);
-    struct found found = find_done(list);
-    while (found.active > 0 && found.many == 0) {
-        wait_for(call, list->at, list->many, true);
-        free(found.done);
-        found = find_done(list);
-    }
-    return found;
-}
-
-int MPI_Waitany(int many, MPI_Request handles[], int *index, MPI_Status *status) {
-    struct list list;
-    int code = read_list(&list, many, handles, "MPI_Waitany");
-    if (code != MPI_SUCCESS) return code;
-    struct found found = wait_for_some(&list, "waitany", "MPI_Waitany");
-    *index = MPI_UNDEFINED;
-    if (found.active == 0) empty_status(status);
-    else code = take_one(&list, &found, handles, index, status, "MPI_Waitany");
-    free(found.done);
-    give_up(&list);
-    return code;
-}
-
-int MPI_Waitsome(int many, MPI_Request handles[], int *taken, int indices[], MPI_Status statuses[]) {
-    struct list list;
-    int code = read_list(&list, many, handles, "MPI_Waitsome");
-    if (code != MPI_SUCCESS) return code;
-    struct found found = wait_for_some(&list, "waitsome", "MPI_Waitsome");
-    *taken = MPI_UNDEFINED;
-    if (found.active > 0) code = take_some(&list, &found, handles, taken, indices, statuses, "MPI_Waitsome");
-    free(found.done);
-    give_up(&list);
-    return code;
-}
-
-int MPI_Testany(int many, MPI_Request handles[], int *index, int *flag, MPI_Status *status) {
-    struct list list;
-    int code = read_list(&list, many, handles, "MPI_Testany");
-    if (code != MPI_SUCCESS) return code;
-    struct found found = find_done(&list);
-    *index = MPI_UNDEFINED;
-    *flag = found.active == 0 || (found.many > 0 && !holds_back());
-    if (!*flag) test_in_vain("MPI_Testany", list.at, many);
-    else if (found.active == 0) empty_status(status);
-    else code = take_one(&list, &found, handles, index, status, "MPI_Testany");
-    free(found.done);
-    give_up(&list);
-    return code;
-}
-
-int MPI_Testsome(int many, MPI_Request handles[], int *taken, int indices[], MPI_Status statuses[]) {
-    struct list list;
-    int code = read_list(&list, many, handles, "MPI_Testsome");
-    if (code != MPI_SUCCESS) return code;
-    struct found found = find_done(&list);
-    *taken = found.active == 0 ? MPI_UNDEFINED : 0;
-    if (found.many > 0 && !holds_back()) code = take_some(&list, &found, handles, taken, indices, statuses, "MPI_Testsome");
-    else if (found.active > 0) test_in_vain("MPI_Testsome", list.at, many);
-    free(found.done);
-    give_up(&list);
+    record_wait("waitall", list.at, handles, many, "MPI_Waitall");
+    code = complete_all(&list, statuses, "MPI_Waitall");
+    give_up_list(&list);
     return code;
 }
 

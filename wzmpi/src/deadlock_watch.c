@@ -8,6 +8,7 @@
 
 #include "diagnostics.h"
 #include "mailbox.h"
+#include "schedule.h"
 #include "standing.h"
 #include "test_loops.h"
 #include "per_rank_libc.h"
@@ -280,6 +281,7 @@ static void tell_stall(const struct sight *sight, uint64_t lost) {
         if (all) warn_of_stall(sight, lost, "each waits (not sure: under MPI_THREAD_MULTIPLE another thread of a rank may let it go on)");
         return;
     }
+    tell_unfit(lost);
     if (!tells_first()) return; /* whoever tells already ends the run, and may want to look at the ranks before */
     wait_for_ends();
     flush_streams();
@@ -287,6 +289,8 @@ static void tell_stall(const struct sight *sight, uint64_t lost) {
     else if (all) fprintf(stderr, "%s: stalled: no rank can go on\n", fault_head());
     else fprintf(stderr, "%s: stalled: %s can't go on\n", fault_head(), ranks_text(lost, ranks));
     tell_lost(sight, lost);
+    tell_unread();
+    keep_deadlock();
     end_run(fault_status(STATUS_STALLED), tests ? (struct question){ NULL, NULL } : complete_stalled(lost, sight->gone));
 }
 

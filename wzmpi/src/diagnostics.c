@@ -7,6 +7,7 @@
 #include "explain.h"
 #include "trace.h"
 #include "record.h"
+#include "schedule.h"
 
 #include <stdarg.h>
 #include <unistd.h>
@@ -84,6 +85,7 @@ void end_run(int status, struct question question) {
     flush_streams();
     go_back();
     if (!record_write()) fprintf(stderr, "%s: %s can't be written\n", fault_head(), the_run.text != NULL ? the_run.text : the_run.values);
+    if (!write_schedule()) fprintf(stderr, "%s: %s can't be written\n", fault_head(), the_run.schedule_out);
     const char *unwritten = the_run.notes ? write_notes() : NULL;
     if (unwritten != NULL) fprintf(stderr, "%s: %s can't be written\n", fault_head(), unwritten);
     if (question.words != NULL) explain_end(&question);

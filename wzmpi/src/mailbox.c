@@ -3,6 +3,7 @@
 #include "mailbox.h"
 
 #include "diagnostics.h"
+#include "schedule.h"
 #include "warnings.h"
 
 /* A rank's mail: what has come and nobody has asked for, and the receives that nothing has come for, each in its order. */
@@ -125,6 +126,7 @@ static void hand_over(struct message *message, struct request *receive) {
     struct request *send = message->awaited_by;
     struct rank *author = message->author;
     receive->message = message;
+    if (receive->from_any) keep_source(receive->comm->members[receive->member].rank, receive->step, message->group_rank);
     atomic_store(&receive->arrived, true);
     if (send != NULL) {
         atomic_store(&send->arrived, true);

@@ -3,10 +3,20 @@
 #include "loans.h"
 #include "mailbox.h"
 #include "overlap.h"
+#include "schedule.h"
 #include "trace.h"
 #include "diagnostics.h"
 #include "generalized.h"
 #include "window.h"
+
+/* Whose message a receive from any source gets depends on time, and so it is a choice. */
+static void choose_source(struct request *request) {
+    struct plan plan = next_planned(request->name);
+    request->other = MPI_ANY_SOURCE;
+    request->planned = 0;
+    ask_planned(request, &plan);
+    request->step = keep_begun(request->name);
+}
 
 int start_message(struct request *request) {
     note_progress();
@@ -15,6 +25,7 @@ int start_message(struct request *request) {
     if (request->persistent) request->begun = run_clock();
     request->message = NULL;
     request->started_at = current_rank->site;
+    if (request->from_any) choose_source(request);
     if (request->other == MPI_PROC_NULL) atomic_store(&request->arrived, true);
     else if (request->sort == SENDING) start_send(request);
     else start_receive(request);
@@ -147,6 +158,7 @@ int make_message(const struct words *words, enum sort sort, bool synchronous, st
     request->type = find_type(words->type);
     type_use(request->type);
     request->other = words->other;
+    request->from_any = sort == RECEIVING && words->other == MPI_ANY_SOURCE;
     request->tag = words->tag;
     request->synchronous = synchronous;
     *made = request;

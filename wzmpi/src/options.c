@@ -19,11 +19,13 @@ static const char help[] =
     "  --check          reports where a program changes what a nonblocking or persistent call sends, or writes to where it receives, before it is completed\n"
     "  --seed S         draws by the number S how the ranks interleave and which of several finished requests MPI_Waitany and its like take\n"
     "  --seeds A..B     runs it with each of these seeds until a run ends badly\n"
-    "  --explain        at a bad end has colljob, which PATH has or COLLJOB names, tell why\n"
+    "  --explain        at a bad end has colljob, which PATH has or COLLJOB names, tell why; at a good one, whether the run deadlocks where MPI_Waitany and its like complete others\n"
+    "  --schedule FILE  has each MPI_Waitany, MPI_Test and the like complete what FILE says, as --write-schedule wrote it, so that a deadlock comes again\n"
     "  --timeout S      ends the run after S seconds with status 124, and says where each rank stands, as SIGINT and SIGTERM do; SIGQUIT says it, and the run goes on\n"
     "Files and figures:\n"
     "  --text FILE      writes the calls as a job text\n"
     "  --values FILE    writes what requests got, as the lines of `colljob plain`\n"
+    "  --write-schedule FILE  writes what each of these calls completed, or completes in the run that --explain shows\n"
     "  --timeline FILE  writes when each collective and message was under way, and each wait, as trace events that Perfetto opens\n"
     "  --trace FILE     writes each call that an engine accepted, in the order in which the engines took them\n"
     "  --html FILE      writes a page of the run for any browser, by wzrecord, which lies beside wzrun or in PATH\n"
@@ -36,7 +38,7 @@ static const char help[] =
     "  --oversubscribe, --allow-run-as-root  are taken, as mpirun's, and mean nothing\n"
     "  --version, --help\n"
     "  --               ends the options\n"
-    "Statuses: that of the program; 1: wzrun can't run it; 2: a call that MPI doesn't allow, or calls that don't agree; 3: stalled; 128 + the signal of a crash.\n";
+    "Statuses: that of the program; 1: wzrun can't run it, or --schedule doesn't fit it; 2: a call that MPI doesn't allow, or calls that don't agree; 3: stalled; 128 + the signal of a crash.\n";
 
 static void give_up(const char *word, const char *reason) __attribute__((noreturn));
 static void give_up(const char *word, const char *reason) {
@@ -126,6 +128,8 @@ static bool read_value(const char *word, const char *value, struct options *opti
     else if (is_word(word, "--values")) the_run.values = value;
     else if (is_word(word, "--timeline")) the_run.timeline = value;
     else if (is_word(word, "--trace")) the_run.trace = value;
+    else if (is_word(word, "--schedule")) the_run.schedule = value;
+    else if (is_word(word, "--write-schedule")) the_run.schedule_out = value;
     else if (is_word(word, "--html")) options->page = value;
     else return false;
     return true;
@@ -156,6 +160,8 @@ static void read_variables(struct options *options) {
     the_run.values = variable("WZ_VALUES");
     the_run.timeline = variable("WZ_TIMELINE");
     the_run.trace = variable("WZ_TRACE");
+    the_run.schedule = variable("WZ_SCHEDULE");
+    the_run.schedule_out = variable("WZ_WRITE_SCHEDULE");
 }
 
 static void tell_and_end(const char *text) {

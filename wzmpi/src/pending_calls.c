@@ -17,7 +17,7 @@ static struct recording *part_of(int rank) { return record_part(&the_run.ranks[r
 static void lock_parts(void) {
     for (int i = 0; i < the_run.size; i++) {
         flockfile(part_of(i)->text);
-        fflush(part_of(i)->text);
+        record_write_choosing(part_of(i));
         if (part_of(i)->full) untold = "the text ends before the calls do";
         if (part_of(i)->left_out) untold = "the text has no room for all communicators";
     }

@@ -3,6 +3,7 @@
 #include "mailbox.h"
 #include "diagnostics.h"
 #include "generalized.h"
+#include "schedule.h"
 #include "test_loops.h"
 
 /* A probe as a request that is active, with what it asks for. */
@@ -15,17 +16,34 @@ static int make_probe(int source, int tag, MPI_Comm comm, struct request **made,
     return code;
 }
 
-/* Whether a message is there; where it is waited for, it is in the end. */
+/* Waits for the message where the call does, or has to find one. */
+static void wait_for_message(struct request *request, const struct plan *plan, bool waits) {
+    struct request *only[1] = { request };
+    if (plan->what == NOTHING && waits) misfit(plan, request->name, "it waits for a message");
+    ask_planned(request, plan);
+    if ((waits || plan->what == SOURCE) && !has_come(request, MPI_STATUS_IGNORE)) wait_for(request->name, only, 1, false);
+}
+
+/* Whether a message is there; where it is waited for, it is in the end. A call that doesn't wait, or asks for any source, chooses. */
 static bool look(struct request *request, bool waits, MPI_Status *status) {
     struct request *only[1] = { request };
+    MPI_Status own, *found = status != MPI_STATUS_IGNORE ? status : &own;
     if (request->other == MPI_PROC_NULL) {
         write_status(status, NULL);
         return true;
     }
-    if (waits && !has_come(request, MPI_STATUS_IGNORE)) wait_for(request->name, only, 1, false);
-    bool there = has_come(request, status);
-    if (!there) test_in_vain(request->name, only, 1);
-    return there;
+    bool chooses = !waits || request->from_any;
+    struct plan plan = chooses ? next_planned(request->name) : (struct plan){ .what = FREE };
+    long step = chooses ? keep_begun(request->name) : NO_STEP;
+    wait_for_message(request, &plan, waits);
+    bool there = plan.what != NOTHING && has_come(request, found);
+    if (there) {
+        keep_source(current_rank->number, step, found->MPI_SOURCE);
+        return true;
+    }
+    keep_completed(step, NULL, 0);
+    test_in_vain(request->name, only, 1);
+    return false;
 }
 
 static int probe(int source, int tag, MPI_Comm comm, int *flag, MPI_Status *status, const char *call) {

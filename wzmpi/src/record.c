@@ -21,15 +21,14 @@ struct recording *record_part(struct rank *rank) {
     return atomic_compare_exchange_strong(&rank->recording, &none, part) ? part : none;
 }
 
-/* This rank's part, locked; NULL: no text is wanted. */
-static struct recording *open_part(void) {
+struct recording *record_open_part(void) {
     if (!record_is_wanted()) return NULL;
     struct recording *part = record_part(current_rank);
     flockfile(part->text);
     return part;
 }
 
-static void close_part(struct recording *part) { funlockfile(part->text); }
+void record_close_part(struct recording *part) { funlockfile(part->text); }
 
 /* ---- communicators */
 
@@ -123,7 +122,7 @@ void write_signature(FILE *to, const struct request *request) {
     else for (int i = 0; i < request->comm->size; i++) fprintf(to, " %u", request->counts[i]);
 }
 
-static bool is_full(struct recording *to, bool posts_more) {
+bool record_is_full(struct recording *to, bool posts_more) {
     if (to->full) return true;
     fflush(to->text);
     to->full = (posts_more && atomic_fetch_add(&posts, 1) >= MOST_POSTS) || to->length > MOST_TEXT / (size_t)the_run.size;
@@ -136,7 +135,7 @@ static void write_where(FILE *to, const struct request *request, const char *cal
 }
 
 bool record_begin_post(struct recording *to, const struct made *made) {
-    if (is_full(to, true)) return false;
+    if (record_is_full(to, true)) return false;
     if (to->requests % 64 == 0) to->made = must(realloc(to->made, sizeof *to->made * (size_t)(to->requests + 64)));
     fprintf(to->text, "%s %d ", made->persistent ? "init" : "post", made->comm);
     fflush(to->text);
@@ -172,33 +171,33 @@ static bool write_post(struct recording *to, struct request *request, const char
 }
 
 void record_post(struct request *request, const char *call, const void *bytes, size_t length) {
-    struct recording *to = open_part();
+    struct recording *to = record_open_part();
     if (to == NULL) return;
     if (write_post(to, request, call)) {
         if (request->direct) write_values(to->text, request->text_type, bytes, length);
         fputc('\n', to->text);
     }
-    close_part(to);
+    record_close_part(to);
 }
 
 void record_init(struct request *request) {
-    struct recording *to = open_part();
+    struct recording *to = record_open_part();
     if (to == NULL) return;
     if (write_post(to, request, request->name)) fputc('\n', to->text);
-    close_part(to);
+    record_close_part(to);
 }
 
 void record_start(struct request *request, const char *call, const void *bytes, size_t length) {
     if (request->recorded < 0) return;
-    struct recording *to = open_part();
-    if (!is_full(to, false)) {
+    struct recording *to = record_open_part();
+    if (!record_is_full(to, false)) {
         write_where(to->text, request, call);
         fprintf(to->text, "start %d", request->recorded);
         if (request->direct) write_values(to->text, request->text_type, bytes, length);
         fputc('\n', to->text);
         to->made[request->recorded].starts++;
     }
-    close_part(to);
+    record_close_part(to);
 }
 
 void record_refused(struct request *request) {
@@ -214,44 +213,9 @@ void record_refused(struct request *request) {
     free(packed);
 }
 
-/* ---- completion */
-
-static bool is_recorded(const struct request *request) { return request != NULL && request->active && request->recorded >= 0; }
-
-void record_wait(const char *word, struct request **list, int many, const char *call) {
-    bool any = false;
-    if (!record_is_wanted()) return;
-    for (int i = 0; i < many; i++) any = any || is_recorded(list[i]);
-    if (!any) return;
-    struct recording *to = open_part();
-    if (!is_full(to, false)) {
-        fprintf(to->text, "# %s, %s\n%s", call, atomic_load(&current_rank->site), word);
-        for (int i = 0; i < many; i++)
-            if (is_recorded(list[i])) fprintf(to->text, " %d", list[i]->recorded);
-        fputc('\n', to->text);
-    }
-    close_part(to);
-}
-
-/* A line of one recorded request. */
-static void write_command(const struct request *request, const char *call, const char *command) {
-    if (request->recorded < 0) return;
-    struct recording *to = open_part();
-    if (!is_full(to, false)) {
-        fprintf(to->text, "# %s, %s\n%s %d\n", call, atomic_load(&current_rank->site), command, request->recorded);
-        if (strcmp(command, "free") == 0) to->made[request->recorded].freed = true;
-    }
-    close_part(to);
-}
-
-/* A text shows only by waits that a request is inactive, and a test that completes one stands as a wait. */
-void record_completed(struct request *request) { write_command(request, "completed", "wait"); }
-
-void record_free(struct request *request) { write_command(request, "MPI_Request_free", "free"); }
-
 void record_outcome(struct request *request) {
     if (the_run.values == NULL || request->recorded < 0) return;
-    struct recording *to = open_part();
+    struct recording *to = record_open_part();
     size_t size;
     if (to->outcomes % 64 == 0) to->got = must(realloc(to->got, sizeof *to->got * (size_t)(to->outcomes + 64)));
     struct outcome *got = &to->got[to->outcomes++];
@@ -262,28 +226,50 @@ void record_outcome(struct request *request) {
     else fputs(" :", line);
     fputc('\n', line);
     fclose(line);
-    close_part(to);
+    record_close_part(to);
 }
 
 /* ---- the files */
 
-bool record_write_text(const char *path) {
-    FILE *to = fopen(path, "w");
-    if (to == NULL) return false;
+/* Where a text of this run ends before its ranks: how many lines it has there. */
+static size_t write_head(FILE *to) {
+    size_t lines = 1;
     fprintf(to, "ranks %d\n", the_run.size);
     for (int i = 1; i < record_comms(); i++) {
         fprintf(to, "# %s\ncomm", comms[i].name);
         for (int j = 0; j < comms[i].size; j++) fprintf(to, " %d", comms[i].ranks[j]);
         fputc('\n', to);
+        lines += 2;
     }
+    return lines;
+}
+
+/* A rank's part, with its lines that choose as the run has them or, where it is ALONE, as waits for what they completed in it. How many lines it has. */
+static size_t write_part(FILE *to, struct recording *part, bool alone) {
+    size_t lines = 0, at = 0;
+    flockfile(part->text);
+    record_write_choosing(part);
+    for (int i = 0; alone && i < part->many_chosen; at = part->chosen[i++].end) {
+        fwrite(part->bytes + at, 1, part->chosen[i].begin - at, to);
+        fputs(part->chosen[i].alone, to);
+    }
+    fwrite(part->bytes + at, 1, part->length - at, to);
+    for (size_t i = 0; i < part->length; i++) lines += part->bytes[i] == '\n';
+    funlockfile(part->text);
+    return lines;
+}
+
+bool record_write_text(const char *path, bool alone) {
+    FILE *to = fopen(path, "w");
+    if (to == NULL) return false;
+    size_t lines = write_head(to);
     for (int i = 0; i < the_run.size; i++) {
         struct recording *part = atomic_load(&the_run.ranks[i].recording);
         fprintf(to, "rank %d\n", i);
+        lines++;
         if (part == NULL) continue;
-        flockfile(part->text);
-        fflush(part->text);
-        fwrite(part->bytes, 1, part->length, to);
-        funlockfile(part->text);
+        part->first_line = lines + 1;
+        lines += write_part(to, part, alone);
     }
     unsigned long long messages = messages_sent();
     if (messages > 0)
@@ -313,6 +299,6 @@ static bool write_outcomes(const char *path) {
 }
 
 bool record_write(void) {
-    bool text = the_run.text == NULL || record_write_text(the_run.text);
+    bool text = the_run.text == NULL || record_write_text(the_run.text, false);
     return (the_run.values == NULL || write_outcomes(the_run.values)) && text;
 }

@@ -25,6 +25,27 @@ struct outcome {
     char *line;
 };
 
+/* A call that chooses what it completes, until that is known. */
+struct choosing {
+    const char *word, *call, *site; /* word: of the wait that chooses so */
+    bool waits, mixed; /* mixed: it also names requests that the text doesn't have */
+    int many, *requests; /* how the text numbers those of its list; -1: it hasn't one */
+    struct choosing *next;
+};
+
+/* Its lines in the text, and those in which it waits for what it has completed, whatever the time. */
+struct chosen {
+    size_t begin, end;
+    char *alone;
+};
+
+/* Where the program had the handles of requests that were completed. */
+struct handle_places {
+    const void **keys;
+    int *requests;
+    size_t many, room;
+};
+
 struct recording {
     FILE *text;
     char *bytes; /* once the text is flushed */
@@ -33,6 +54,12 @@ struct recording {
     struct made *made; /* as many as there are requests */
     uint32_t places[MOST_COMMS + 1];
     struct outcome *got;
+    struct choosing *choosing;
+    struct chosen *chosen;
+    int many_chosen;
+    bool has_choices; /* some line might complete something else */
+    struct handle_places handles;
+    size_t first_line; /* of the file that was written last */
     bool full, left_out; /* left_out: calls on communicators that the text has no room for */
 };
 
@@ -44,6 +71,14 @@ struct text_comm {
 };
 
 struct recording *record_part(struct rank *rank);
+
+/* This rank's part, locked; NULL: no text is wanted. */
+struct recording *record_open_part(void);
+void record_close_part(struct recording *part);
+/* Whether it has no room for a further command, which is a post where it POSTS_MORE. */
+bool record_is_full(struct recording *to, bool posts_more);
+/* Adds the lines of calls that wait still, at the end of a run. */
+void record_write_choosing(struct recording *to);
 
 /* How many communicators the text has, and one of them. */
 int record_comms(void);

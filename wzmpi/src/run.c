@@ -4,11 +4,13 @@
 #include "trace.h"
 #include "options.h"
 #include "per_rank_libc.h"
+#include "explain.h"
 #include "rank_copies.h"
 #include "signals.h"
 #include "threads.h"
 #include "warnings.h"
 #include "record.h"
+#include "schedule.h"
 #include "diagnostics.h"
 
 #include <errno.h>
@@ -174,6 +176,8 @@ static int run_ranks(int argc, char **argv, const struct options *options) {
     pthread_attr_init(&attributes);
     pthread_attr_setstacksize(&attributes, stack_bytes());
     begin_run(size);
+    const char *unread = the_run.schedule != NULL ? read_schedule(the_run.schedule, size) : NULL;
+    if (unread != NULL) give_up(the_run.schedule, unread);
     the_run.one_folder = unshare(CLONE_FS) != 0; /* some containers forbid it; else each rank has its own working directory and umask */
     the_run.folder = open(".", O_PATH | O_DIRECTORY | O_CLOEXEC);
     sem_init(&ended, 0, 0);
@@ -206,8 +210,13 @@ int wz_main_(int argc, char **argv) {
     int status = run_ranks(argc, argv, &options);
     flush_streams();
     go_back();
+    if (schedule_goes_on()) status = 1;
+    bool recorded = record_write();
+    if (recorded && status == 0 && the_run.explains) explain_choices();
+    bool kept = write_schedule();
     if (the_run.statistics) tell_statistics();
-    if (!record_write()) give_up(the_run.text != NULL ? the_run.text : the_run.values, "it can't be written");
+    if (!recorded) give_up(the_run.text != NULL ? the_run.text : the_run.values, "it can't be written");
+    if (!kept) give_up(the_run.schedule_out, "it can't be written");
     const char *unwritten = the_run.notes ? write_notes() : NULL;
     if (unwritten != NULL) give_up(unwritten, "it can't be written");
     return status;

@@ -20,6 +20,7 @@ import tempfile
 import check_calling
 import check_processes
 import check_sanitizers
+import check_schedules
 import check_standing
 import check_thorough
 import check_threads
@@ -39,7 +40,7 @@ OPTIONS = {
 # Those that --explain is tried with.
 EXPLAINED = ["root", "blocking", "lacking", "crossed", "missing_start", "missing_split", "any_of_two", "receives_first", "lucky_bcasts", "lucky_sends"]
 # Other tests, each in a file of its own.
-MODULES = [check_calling, check_processes, check_sanitizers, check_standing, check_threads]
+MODULES = [check_calling, check_processes, check_sanitizers, check_schedules, check_standing, check_threads]
 # The programs without a mistake.
 RIGHT = [HERE / "right.c", HERE / "right_edges.c"]
 # How many ranks each right program is run with, where these aren't 1, 2 and 5.
