@@ -1,13 +1,19 @@
 #!/usr/bin/env python3
-"""Verdicts and values of `colljob explain` and `plain` beside runs of the same texts: explain.py PROGRAM [TEXTS [SEED [RANKS]]]
+"""Verdicts and values of `colljob explain` and `plain` beside runs of the same texts:
+
+    explain.py PROGRAM [TEXTS [SEED [RANKS]]] [--choices] [--runs N] [--part I/N]
 
 Each text has 2 to 6 ranks, or 2 to RANKS and at most 100 lines, some communicators, and collectives that are posted or started in an order of
-each rank's own among communicators, with waits, waits for any and some, and tests in between. It is explained once, and run three times with 0
-to 8 progress threads. A text that never stalls must end in each run, one that stalls in every run must stall in each, and a run that ends must
+each rank's own among communicators, with waits, waits for any and some, and tests in between. It is explained once, and run three times, or N,
+with 0 to 8 progress threads. --part 2/4 takes the second quarter of the texts. A text that never stalls must end in each run, one that stalls in every run must stall in each, and a run that ends must
 write what `plain` writes. Ends with 1 where one doesn't, and shows the text. So it does where the shortest cycle that is reported is no cycle,
-or a search of all cycles finds a shorter one. It also prints how many of the texts that may stall did so in some run, and in each, and how
-long the runs took.
+or a search of all cycles finds a shorter one; where a run that is shown leaves out or repeats a line; where its text doesn't stall in which each
+call completes what it does in that run; and, where no run is shown, where a rank that waits isn't shown with each request that its call names and
+that some member holds up whose contribution the value needs, with just those members, and the lines in which they wait and would give. It also
+prints how many of the texts that stall in some runs, or may, did so in some run, and in each, and how long the runs took. With --choices most
+waits are waits for any or some, and tests.
 """
+import argparse
 import collections
 import json
 import os
@@ -20,11 +26,28 @@ import time
 sys.path.insert(0, os.path.join(os.path.dirname(os.path.realpath(__file__)), "..", "..", "recorder", "record"))
 
 import job_words  # noqa: E402
+import reading  # noqa: E402
 
 KINDS = [kind for kind in job_words.GIVEN if kind != "allgatherv"]
-RUNS = 3
 SECONDS = 60
 MOST_LINES = 100
+# The verdicts with which runs may differ.
+OPEN = ["in some", "sometimes", "perhaps"]
+
+
+def arguments():
+    parser = argparse.ArgumentParser()
+    parser.add_argument("program")
+    parser.add_argument("texts", type=int, nargs="?", default=2000)
+    parser.add_argument("seed", type=int, nargs="?", default=1)
+    parser.add_argument("ranks", type=int, nargs="?")
+    parser.add_argument("--choices", action="store_true")
+    parser.add_argument("--runs", type=int, default=3)
+    parser.add_argument("--part", default="1/1")
+    return parser.parse_args()
+
+
+WORDS = arguments()
 
 
 class Collective:
@@ -58,7 +81,7 @@ def completion(rng, live):
     """A line that waits for or tests some of these requests, and those that are surely inactive after it."""
     some = rng.sample(live, rng.randint(1, len(live)))
     names = " ".join(map(str, some))
-    match rng.randrange(6):
+    match rng.randrange(4) if WORDS.choices and rng.random() < 0.8 else rng.randrange(6):
         case 0:
             return f"waitany {names}", []
         case 1:
@@ -148,10 +171,60 @@ def shortest_length(awaited):
 
 def is_shortest(objects):
     """Whether the ranks of `shortest` wait each for the next, and no cycle has fewer."""
-    awaited = {it["rank"]: {lack["rank"] for request in it["requests"] for lack in request["lacks"]} for it in objects[:-1]}
+    stuck = [it for it in objects if it["reason"] == "waits"]
+    awaited = {it["rank"]: {lack["rank"] for request in it["requests"] for lack in request["lacks"]} for it in stuck}
     ring = objects[-1]["shortest"]
     waits = all(after in awaited[rank] for rank, after in zip(ring, ring[1:] + ring[:1]))
     return waits and len(ring) == shortest_length(awaited)
+
+
+def is_run(objects, text):
+    """Whether each rank of a run that is shown carries its lines out in their order, up to the line in which it waits."""
+    passes = [it for it in objects if it["reason"] == "passes"]
+    stops = {it["rank"]: it["line"] for it in objects if it["reason"] == "waits"}
+    rank, lines = None, collections.defaultdict(list)
+    for number, words in enumerate(map(str.split, text.splitlines()), 1):
+        if words[0] == "rank":
+            rank = int(words[1])
+        elif rank is not None:
+            lines[rank].append(number)
+    for rank in range(int(text.split()[1])):
+        own = lines[rank] + [None]
+        done = own[: own.index(stops[rank])] if rank in stops else own
+        if [it["line"] for it in passes if it["rank"] == rank] != done:
+            return False
+    return True
+
+
+def fault_of_waits(text, objects):
+    """What is wrong with the ranks that are shown to wait; nothing where all is right."""
+    there, shown = reading.Reading(text), {it["rank"]: it for it in objects[:-1]}
+    waits = {rank: it["line"] for rank, it in shown.items()}
+    for rank, it in shown.items():
+        reported, wanted = [], []
+        for one in it["requests"]:
+            if any(waits.get(lack["rank"]) != lack["behind"] for lack in one["lacks"]):
+                return f"rank {rank}: a member waits in another line: {one}"
+            lacks = {lack["rank"]: lack["line"] for lack in one["lacks"] if lack["needed"]}
+            if lacks:
+                reported.append((one["req"], one["kind"], one["comm"], one["place"], one["start"], one["line"], lacks))
+        for number, start, lacks in there.awaited(rank, it["line"], waits):
+            own = there.requests[rank][number]
+            wanted.append((number, own.kind, own.comm, own.place, start, own.starts[start], lacks))
+        if sorted(reported) != sorted(wanted):
+            return f"rank {rank} waits for {reported} and not {wanted}"
+    if shown and set(shown) | set(objects[-1]["ended"]) != set(there.groups[0]):
+        return f"{sorted(shown)} wait, {objects[-1]['ended']} are at their ends"
+    return ""
+
+
+def picked_text(objects, text):
+    """The text in which each call of a run that is shown waits for what it completes there: it must stall whatever the time."""
+    lines = text.splitlines()
+    for it in objects:
+        if it["reason"] == "passes" and it["completes"] is not None:
+            lines[it["line"] - 1] = " ".join(["waitall", *map(str, it["completes"])]) if it["completes"] else ""
+    return "\n".join(lines) + "\n"
 
 
 def verdict(program, text):
@@ -161,6 +234,15 @@ def verdict(program, text):
     objects = [json.loads(line) for line in ended.stdout.decode().splitlines()]
     if not is_shortest(objects):
         return f"no shortest cycle: {objects[-1]['shortest']}"
+    if objects[-1]["verdict"] in ("in some", "sometimes"):
+        if not is_run(objects, text):
+            return "no run of the text"
+        if not all(run(program, picked_text(objects, text), workers)[0] for workers in (0, 2)):
+            return "a run that doesn't stall"
+        return objects[-1]["verdict"]
+    fault = fault_of_waits(text, objects)
+    if fault:
+        return fault
     return objects[-1]["verdict"]
 
 
@@ -181,28 +263,33 @@ def run(program, text, workers):
     return status == 3, seconds
 
 
+def texts_of_part():
+    """The texts with their numbers."""
+    rng = random.Random(WORDS.seed)
+    part, parts = map(int, WORDS.part.split("/"))
+    for number in range(WORDS.texts):
+        text = short_text(rng, WORDS.ranks) if WORDS.ranks else random_text(rng, 6)
+        if WORDS.texts * (part - 1) // parts <= number < WORDS.texts * part // parts:
+            yield number, text
+
+
 def main():
-    program = sys.argv[1]
-    texts = int(sys.argv[2]) if len(sys.argv) > 2 else 2000
-    rng = random.Random(int(sys.argv[3]) if len(sys.argv) > 3 else 1)
-    verdicts = collections.Counter()
-    some = each = 0
+    verdicts, some, each = collections.Counter(), collections.Counter(), collections.Counter()
     times = []
-    for number in range(texts):
-        text = short_text(rng, int(sys.argv[4])) if len(sys.argv) > 4 else random_text(rng, 6)
-        told = verdict(program, text)
-        runs, seconds = zip(*(run(program, text, (number + 3 * it) % 9) for it in range(RUNS)))
+    for number, text in texts_of_part():
+        reported = verdict(WORDS.program, text)
+        runs, seconds = zip(*(run(WORDS.program, text, (number + 3 * it + it // 3) % 9) for it in range(WORDS.runs)))
         times += seconds
-        wanted = {"never": [False], "never here": [False], "perhaps": [False, True], "always here": [True], "always": [True]}
-        if told not in wanted or any(it not in wanted[told] for it in runs):
-            print(f"{told}, but runs stall so: {runs}\n--\n{text}")
+        wanted = {"never": [False], "never here": [False], "always here": [True], "always": [True]} | dict.fromkeys(OPEN, [False, True])
+        if reported not in wanted or any(it not in wanted[reported] for it in runs):
+            print(f"text {number}: {reported}, but runs stall so: {runs}\n--\n{text}")
             return 1
-        verdicts[told] += 1
-        if told == "perhaps":
-            some += any(runs)
-            each += all(runs)
-    print(f"{texts} texts, each run {RUNS} times:", ", ".join(f"{it} {verdicts[it]}" for it in verdicts))
-    print(f"of those that may stall {some} did in some run, {each} in each")
+        verdicts[reported] += 1
+        some[reported] += any(runs)
+        each[reported] += all(runs)
+    print(f"{sum(verdicts.values())} texts, each run {WORDS.runs} times:", ", ".join(f"{it} {verdicts[it]}" for it in verdicts))
+    for it in OPEN:
+        print(f"of those with the verdict '{it}' {some[it]} stalled in some run, {each[it]} in each")
     print(f"a run took {statistics.median(times):.3f} s, the longest {max(times):.3f} s, {sum(it > 1 for it in times)} took over a second")
     return 0
 

@@ -1,7 +1,7 @@
 #!/usr/bin/env python3
 """Runs random texts with long rows by `colljob run`, and holds each answer against that of `colljob plain`.
 
-    tests/fuzz/long_rows.py [TEXTS [PROGRAM]]    (300 by default)
+    tests/fuzz/long_rows.py [TEXTS [PROGRAM [SEED]]]    (300 texts, from seed 0 on, by default)
 
 A text has 2 to 8 ranks and 4 collectives of all kinds, some persistent, with rows of up to 128 KiB: so long that they lie in segments,
 that members of an allreduce share results, and that a bcast goes along a chain. It is run with 0 to 8 progress threads. Run it at the top of
@@ -32,8 +32,9 @@ def main():
     texts = int(sys.argv[1]) if len(sys.argv) > 1 else 300
     if len(sys.argv) > 2:
         run.PROGRAM = sys.argv[2]
+    first = int(sys.argv[3]) if len(sys.argv) > 3 else 0
     unlike = 0
-    for seed in range(texts):
+    for seed in range(first, first + texts):
         text = text_of(seed)
         wanted, _ = run.answer(["plain"], text)
         told, _ = run.answer(["run", "--workers", str(seed % 9)], text)

@@ -3,7 +3,7 @@
 
 This script computes the values, the lines of the trace, the tables and the picture by itself; of the timeline it knows which bar ends before
 which begins. A job in which the last rank leaves the others waiting must be reported as stalled. A drawn barrier has just the arrows of
-dissemination. The last line is `N passed, N failed`; the status is 0 where none failed, else 1."""
+dissemination, as text and as a picture. The last line is `N passed, N failed`; the status is 0 where none failed, else 1."""
 import collections
 import json
 import os
@@ -205,9 +205,24 @@ def arrows_of(text):
     return rounds
 
 
-def fault_of_drawing(text, n):
+def arrows_of_picture(text):
+    """Returns the same of a picture: each arrow is a line between two columns, with a head at a column to which it leads."""
+    columns = [int(x) for x in re.findall(r'<text class="member" x="(\d+)"', text)]
+    bands = [(int(y), int(y) + int(height)) for y, height in re.findall(r'<rect y="(\d+)" width="100%" height="(\d+)"', text)]
+    heads = re.findall(r'<path d="M(\d+) (\d+)l(-?)9 -4v8z"/>', text)
+    leads = {(int(x) + (1 if side else -1), int(y), bool(side)) for x, y, side in heads}
+    rounds = [set() for _band in bands]
+    for x1, y, x2 in re.findall(r'<line class="arrow" x1="(\d+)" y1="(\d+)" x2="(\d+)"', text):
+        one, other = (min(range(len(columns)), key=lambda p: abs(columns[p] - int(x))) for x in (x1, x2))
+        found = next(round for round, (begin, end) in zip(rounds, bands) if begin <= int(y) < end)
+        found |= {(other, one)} if (columns[one], int(y), False) in leads else set()
+        found |= {(one, other)} if (columns[other], int(y), True) in leads else set()
+    return rounds
+
+
+def fault_of_rounds(found, n):
+    """Says how the arrows of a barrier differ from those of dissemination."""
     wanted = [{(p, (p + 2**k) % n) for p in range(n)} for k in range((n - 1).bit_length())]
-    found = arrows_of(text)
     if len(found) != len(wanted):
         return f"{len(found)} rounds and not {len(wanted)}"
     for at, (one, other) in enumerate(zip(found, wanted)):
@@ -262,7 +277,9 @@ def main():
         status, said, errors, _seconds = colljob(program, ["plain"], text)
         checks.one(f"{n} ranks: plain", f"status {status}: {errors}" if status else first_difference(said, printed))
         status, said, errors, _seconds = colljob(program, ["draw", "barrier", "--members", str(n)], "")
-        checks.one(f"{n} members: the drawn barrier", f"status {status}: {errors}" if status else fault_of_drawing(said, n))
+        checks.one(f"{n} members: the drawn barrier", f"status {status}: {errors}" if status else fault_of_rounds(arrows_of(said), n))
+        status, said, errors, _seconds = colljob(program, ["draw", "barrier", "--members", str(n), "--svg"], "")
+        checks.one(f"{n} members: the barrier's picture", f"status {status}: {errors}" if status else fault_of_rounds(arrows_of_picture(said), n))
     print(f"{checks.passed} passed, {checks.failed} failed")
     return int(checks.failed > 0)
 
