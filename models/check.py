@@ -5,7 +5,8 @@
 
 It ends with 0 where all came out as they must, with 1 where some came out otherwise, and else with 2 where some searches weren't finished.
 It needs `spin` 6.5 and `gcc` (Debian: apt-get install spin gcc). --quick leaves out what takes longer than ten seconds, --jobs N
-searches N at a time. What --quick leaves takes three minutes of processor time, mostly for the compiler; the whole half an hour, and at most 5 GiB for each search.
+searches N at a time. What --quick leaves takes three minutes of processor time, mostly for the compiler; the whole an hour, and at most 8 GiB
+for each search, which cuts off `stall, 3 ranks, 1 worker` (more than 135 million states).
 """
 
 import argparse
@@ -19,7 +20,7 @@ import tempfile
 import time
 
 HERE = os.path.dirname(os.path.abspath(__file__))
-MEBIBYTES = 5000
+MEBIBYTES = 8000
 SECONDS = 1200
 HOLDS, FAILS = "holds", "fails"
 # how a configuration came out: as it must, otherwise, or with no result, since its search was cut off or couldn't begin

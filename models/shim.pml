@@ -6,7 +6,8 @@
  * and one for the progress that follows. How often a thread looks before it sleeps, and how often a combiner looks again,
  * are free choices.
  *
- * Sizes:   RANKS, COLLECTIVES, COMBINATIONS (combinations of a collective), HELPERS (progress threads: 0 or 1)
+ * Sizes:   RANKS, COLLECTIVES, COMBINATIONS (combinations of a collective), HELPERS (progress threads: 0 or 1),
+ *          PROCESSORS (where rows are wide so many that wait compute at the same time; 0: rows aren't wide)
  * Forms:   LONG (combinations are computed with the lock free), CHAINED (a combination is ready once the one before it is there),
  *          FAIR (for liveness), COARSE (what one hold of the lock does to the records is one step for all of them, and so are the wake-ups
  *          that follow it)
@@ -36,6 +37,9 @@
 #endif
 #ifndef HELPERS
 #define HELPERS 0
+#endif
+#ifndef PROCESSORS
+#define PROCESSORS 0
 #endif
 #define RECORDS (RANKS + HELPERS)       /* those of ranks, then those of progress threads */
 #define BIT(n) (1 << (n))
@@ -193,6 +197,11 @@ inline find_work() {
 #else
 #define LEAVES(r) (!GOES_ON_WAITING(r) && HELPED && !late[r])
 #endif
+#if HELPERS
+#define HAS_ROOM true
+#else
+#define HAS_ROOM (outside < PROCESSORS)
+#endif
 #ifdef LEFT_UNSEEN
 #define IS_LEFT(r) (next_of > 0 && kind[r] != A_WAIT)
 #else
@@ -211,13 +220,12 @@ inline progress(r) {
     if
     :: next_of > 0 && unsettled && !LEAVES(r) ->
         taken[r] = next_of - 1; next_of = 0; outside++; combination[r] = COMPUTING;
-#if HELPERS
         find_work();
         if
-        :: j == COLLECTIVES -> unsettled = 0
-        :: j < COLLECTIVES -> ready[j] = ready[j] - 1; next_of = j + 1
+        :: HAS_ROOM && j == COLLECTIVES -> unsettled = 0
+        :: HAS_ROOM && j < COLLECTIVES -> ready[j] = ready[j] - 1; next_of = j + 1
+        :: !(HAS_ROOM)
         fi
-#endif
     :: else
 #else
     :: j == COLLECTIVES -> unsettled = 0
@@ -266,11 +274,7 @@ inline judge() {
     fi
 }
 
-#if HELPERS
-#define PARALLEL (next_of > 0)
-#else
-#define PARALLEL false
-#endif
+#define PARALLEL (next_of > 0 && HAS_ROOM)
 #ifdef HELPER_UNSEEN
 #define CALLABLE RANKS
 #else

@@ -20,7 +20,7 @@ import time
 
 HERE = os.path.dirname(os.path.abspath(__file__))
 MEBIBYTES = 3000
-THREE, TWO, HELPED = "RANKS=3", "COLLECTIVES=2", "HELPERS=1"
+THREE, TWO, HELPED, WIDE = "RANKS=3", "COLLECTIVES=2", "HELPERS=1", "LONG PROCESSORS=2"
 # how a configuration came out: as it must, otherwise, or with no result, since its search was cut off or couldn't begin
 RIGHT, WRONG, OPEN = "ok", "WRONG", "OPEN"
 # whether it must hold, whether every run must end (else: no run ends but as it must), the name, the program and its flags
@@ -48,6 +48,19 @@ CONFIGURATIONS = [
     (True, False, "absentee, 2 ranks, long", f"ABSENTEE {TWO} LONG"),
     (True, False, "absentee, 3 ranks", f"ABSENTEE {THREE} {TWO} COMBINATIONS=1 COARSE"),
     (True, False, "absentee, 3 ranks, long", f"ABSENTEE {THREE} {TWO} LONG COMBINATIONS=1 COARSE"),
+    (True, False, "one, 2 ranks, wide", f"ONE {WIDE}"),
+    (True, False, "one, 2 ranks, wide, chained", f"ONE {WIDE} CHAINED"),
+    (True, False, "one, 2 ranks, wide, one processor", "ONE LONG PROCESSORS=1"),
+    (True, False, "one, 3 ranks, wide", f"ONE {THREE} {WIDE} COARSE"),
+    (True, False, "two, 2 ranks, wide", f"TWO {TWO} {WIDE}"),
+    (True, False, "polls, 2 ranks, wide", f"POLLS {WIDE}"),
+    (True, False, "some poll, 2 ranks, wide", f"SOME_POLL {WIDE}"),
+    (True, False, "leaver, 2 ranks, wide", f"LEAVER {WIDE}"),
+    (True, False, "leaver, 3 ranks, wide", f"LEAVER {THREE} {WIDE} COARSE"),
+    (True, False, "returns, 2 ranks, wide", f"RETURNS {WIDE}"),
+    (True, False, "crossed, 2 ranks, wide", f"CROSSED {TWO} {WIDE}"),
+    (True, False, "absentee, 2 ranks, wide", f"ABSENTEE {TWO} {WIDE}"),
+    (True, False, "absentee, 3 ranks, wide", f"ABSENTEE {THREE} {TWO} {WIDE} COARSE"),
     (True, False, "computes, 2 ranks, helped", f"COMPUTES {HELPED} COARSE"),
     (True, False, "computes, 2 ranks, long, helped", f"COMPUTES LONG {HELPED} COARSE"),
     (True, False, "computes, 2 ranks, long, chained, helped", f"COMPUTES LONG CHAINED {HELPED} COARSE"),
@@ -62,6 +75,9 @@ CONFIGURATIONS = [
     (True, True, "one ends, 2 ranks, long", "ONE LONG"),
     (True, True, "leaver ends, 2 ranks, long", "LEAVER LONG"),
     (True, True, "some poll ends, 2 ranks, long", "SOME_POLL LONG"),
+    (True, True, "one ends, 2 ranks, wide", f"ONE {WIDE}"),
+    (True, True, "leaver ends, 2 ranks, wide", f"LEAVER {WIDE}"),
+    (True, True, "some poll ends, 2 ranks, wide", f"SOME_POLL {WIDE}"),
     (False, False, "not woken", "ONE NOT_WOKEN"),
     (False, False, "looks first", "ONE LOOKS_FIRST"),
     (False, False, "lock unseen", "ONE LOCK_UNSEEN"),
@@ -72,6 +88,7 @@ CONFIGURATIONS = [
     (False, False, "stall while a combination is out", "ONE LONG STALL_WHILE_OUT"),
     (False, False, "a post takes many", "POLLS LONG TAKES_MANY"),
     (False, False, "left unseen", "LEAVER LONG LEFT_UNSEEN"),
+    (False, False, "left unseen, wide", f"ONE {WIDE} LEFT_UNSEEN"),
     (False, True, "never late", "SOME_POLL LONG NEVER_LATE"),
     (False, False, "gone twice", "RETURNS GONE_TWICE"),
     (False, False, "a helper counts", f"CROSSED {TWO} LONG COMBINATIONS=1 {HELPED} HELPER_COUNTS"),
