@@ -3,11 +3,13 @@
 ROUNDS interleaved rounds, in microseconds an operation, for 2, 4 and 8 ranks, on the machine as it is and beside as many busy processes as
 it has processors. Prints the rows of two tables for bench/RESULTS.md.
 
-    bench/mpi_programs.py [ROUNDS] [--bin [NAME=]BIN[+large] ..] [--ours] [--seconds S] [--longest S] [--ranks N ..] [--only idle|busy]
+    bench/mpi_programs.py [ROUNDS] [--bin [NAME=]BIN[+large] ..] [--ours] [--without NAME ..] [--seconds S] [--longest S] [--ranks N ..]
+                          [--only idle|busy] [--measures WORD ..]
 
 3 rounds where no number is said. BIN has wzcc and wzrun, wzmpi/out/bin where it isn't named. Several builds, each with a NAME, are
 compared by turns, and `+large` runs one under --large-pages. A measure takes S seconds in each run, 0.3 where it isn't said. Each library is
-measured whose compiler is found, mpicc.openmpi or mpicc.mpich (Debian's libopenmpi-dev and libmpich-dev); with --ours none is. `-` stands
+measured whose compiler is found, mpicc.openmpi or mpicc.mpich (Debian's libopenmpi-dev and libmpich-dev); with --ours none is, and --without
+names some that aren't. --measures chooses those whose names have a word. `-` stands
 where a run was ended, after 40 seconds or those of --longest, before it came to the measure; (n) where n of the rounds came to it.
 Run it with nothing beside it.
 """
@@ -44,6 +46,8 @@ def commands(options, folder):
     """Name -> what runs the program with a number of ranks, as a list of words."""
     made = dict(own_command(word, folder) for word in options.bin)
     for name, (word, words) in {}.items() if options.ours else LIBRARIES.items():
+        if name in options.without:
+            continue
         if shutil.which(f"mpicc.{word}"):
             theirs = folder / word
             subprocess.run([f"mpicc.{word}", "-O2", SOURCE, "-o", theirs], check=True)
@@ -90,7 +94,7 @@ def measured(made, state, options):
         for _ in range(options.rounds):
             for ranks in options.ranks:
                 for name, words in made.items():
-                    for measure, time in run([*words(ranks), str(options.seconds)], options.longest).items():
+                    for measure, time in run([*words(ranks), str(options.seconds), *options.measures], options.longest).items():
                         times.setdefault((measure, name, ranks), []).append(time)
     finally:
         for process in processes:
@@ -126,6 +130,8 @@ def main():
     parser.add_argument("--longest", type=float, default=40)
     parser.add_argument("--ranks", type=int, nargs="+", default=[2, 4, 8])
     parser.add_argument("--only", choices=STATES)
+    parser.add_argument("--without", nargs="+", default=[], choices=list(LIBRARIES))
+    parser.add_argument("--measures", nargs="+", default=[])
     options = parser.parse_args()
     with tempfile.TemporaryDirectory() as folder:
         made = commands(options, pathlib.Path(folder))

@@ -61,10 +61,11 @@ _colljob() {
             case "$before" in
                 --format) _colljob_words 'text json dot'; return ;;
                 --color) _colljob_words 'auto always never'; return ;;
+                --depth) _colljob_files; return ;;
                 --html) _colljob_files; return ;;
             esac
             takes_job=1
-            options='--format --color --strict --all --html -h --help'
+            options='--format --color --strict --depth --all --html -h --help'
             ;;
         'check')
             case "$before" in
