@@ -1,23 +1,24 @@
-ghost use Rattle.std.specs.Prelude.{◌≡◌, ◌≤◌, ◌↔◌, ◌%◌, [], length, IfOk, IfSome, IsOkUnless, IsTrue, OnErr, OnOk};
+//! The bytes that a schedule's actions read and write.
+
+mod actions;
+
+ghost use Rattle.std.specs.Prelude.{◌≡◌, ◌≤◌, ◌↔◌, [], length, IfOk, IfSome, IsOkUnless, IsTrue};
 ghost use Rattle.std.specs.Option.{ForSome};
 ghost use Rattle.coll_core.specs.Buffers.{HasRoom, HasRooms, IsRoom, bytes_of};
-ghost use Rattle.coll_kinds.specs.Checks.{allowed};
-ghost use Rattle.coll_kinds.specs.Elements.{width};
 ghost use Rattle.coll_ops.specs.Combinations.{combined as combination_of};
-ghost use Rattle.coll_sched.specs.Actions.{Fits, IsLocal, wrote};
 ghost use Rattle.coll_sched.specs.Families.{laid_in};
 ghost use Rattle.coll_sched.specs.Regions.{Inside, read_of, written};
 
-use crate::combined::{combined, combined_few};
+use crate::buffer::actions::write_count;
 use crate::contribution::Contribution;
 use crate::long::{Awaited, Long};
 use crate::row::Row;
 use crate::word::{WORD, Word};
 use crate::work::Work;
 use coll_bytes::{Bytes, FEW, Segments, Shell};
-use coll_kinds::{Datatype, Op, Refusal};
+use coll_kinds::Refusal;
 use coll_ops::are_same;
-use coll_sched::{Action, Region, Round, Schedule};
+use coll_sched::{Region, Schedule};
 use std::alloc::Global;
 use std::marker::Model;
 
@@ -134,15 +135,6 @@ fn await_combination(long: &mut Long, alloc: Global, work: &mut Work, left: Regi
     long.set_awaited(awaited);
 }
 
-/// Counts the actions of a schedule. There are no more writes than actions.
-fn action_count(rounds: &[Round]) -> usize {
-    let mut count: usize = 0;
-    for round in rounds {
-        count = count.saturating_add(round.actions().len());
-    }
-    count
-}
-
 impl Buffer {
     /// Returns a buffer without bytes. Takes no memory.
     pub fn empty(alloc: Global) -> Buffer
@@ -213,7 +205,7 @@ impl Buffer {
         ensures refusal { IsOkUnless result Refusal.NoMemory }
     {
         let size = schedule.size();
-        let writes = action_count(schedule.rounds());
+        let writes = write_count(schedule.rounds(), input.len);
         let mut first = given;
         first.count_owners(alloc)?;
         let mut segments = Segments::lay_in(alloc, size, input, first);
@@ -352,67 +344,6 @@ impl Buffer {
             Memory::InPlace(row) => Some(row.as_slice()),
             Memory::Together { own, .. } => Some(own),
             Memory::InSegments(_) => None,
-        }
-    }
-
-    /// Combines two regions. A few bytes that lie together are combined where they lie. The only
-    /// refusal is NoMemory.
-    fn combination(
-        &mut self,
-        alloc: Global,
-        op: Op,
-        ty: Datatype,
-        left: Region,
-        right: Region,
-    ) -> Result<Bytes, Refusal>
-        requires first { Inside (length self.old) left }
-        requires second { Inside (length self.old) right }
-        requires allowed { IsTrue (allowed op ty) }
-        requires whole { left.len % width ty ≡ 0 }
-        requires same { right.len ≡ left.len }
-        ensures ok { IfOk result (λ bytes. bytes ≡ combination_of op ty (read_of self.old left) (read_of self.old right)) }
-        ensures long { IfOk result (λ bytes. length bytes ≡ left.len) }
-        ensures same { self.new ≡ self.old }
-        ensures refusal { IsOkUnless result Refusal.NoMemory }
-    {
-        if left.len as usize <= FEW {
-            if let Some(whole) = self.whole() {
-                let first = left.read(whole);
-                let second = right.read(whole);
-                return Ok(combined_few(op, ty, first, second));
-            }
-        }
-        let first = self.part(alloc, left)?;
-        let second = self.part(alloc, right)?;
-        combined(alloc, op, ty, &first, &second)
-    }
-
-    /// Carries out a Copy or a Combine within the buffer. The only refusal is NoMemory.
-    pub(crate) fn act(&mut self, alloc: Global, action: Action) -> Result<(), Refusal>
-        requires fits { Fits (length self.old) action }
-        requires local { IsLocal action }
-        ensures ok { OnOk result (self.new ≡ wrote (λ from. []) self.old action self.old) }
-        ensures err { OnErr result (self.new ≡ self.old) }
-        ensures refusal { IsOkUnless result Refusal.NoMemory }
-    {
-        match action {
-            Action::Copy { from, into } => {
-                let bytes = self.part(alloc, from)?;
-                self.write(into, bytes);
-                Ok(())
-            }
-            Action::Combine {
-                op,
-                ty,
-                left,
-                right,
-                into,
-            } => {
-                let bytes = self.combination(alloc, op, ty, left, right)?;
-                self.write(into, bytes);
-                Ok(())
-            }
-            Action::Send { .. } | Action::Recv { .. } => unreachable!(),
         }
     }
 

@@ -1,9 +1,10 @@
 //! The bytes of a long buffer, and the combination whose result is awaited in a cell.
 
-ghost use Rattle.std.specs.Prelude.{◌≡◌, ◌<◌, ◌≤◌, ◌↔◌, length, IfOk, IfSome, IsOk, IsTrue};
+ghost use Rattle.std.specs.Prelude.{◌≡◌, ◌+◌, ◌-◌, ◌<◌, ◌≤◌, ◌^◌, ◌↔◌, length, min, IfOk, IfSome, IsOk, IsTrue};
 ghost use Rattle.std.specs.Option.{ForSome};
 ghost use Rattle.coll_bytes.specs.declared.bytes.TheConstants.{FEW};
 ghost use Rattle.coll_ops.specs.Combinations.{combined as combination_of};
+ghost use Rattle.coll_ops.specs.Values.{all_rows};
 ghost use Rattle.coll_sched.specs.Regions.{Inside, read_of, written};
 
 use crate::result_cell::ResultCell;
@@ -42,6 +43,18 @@ pub(crate) struct Long {
     ghost awaits: { ForSome awaited (λ a. a.cell ≡ combination_of a.op a.ty (read_of segments.bytes a.left) (read_of segments.bytes a.right)) },
 }
 
+// Returns the next part of `from`, at most `unit` bytes long, after its first `done` bytes.
+fn part_behind(from: Region, done: u32, unit: u32) -> Region
+    requires low { done < from.len }
+    requires fits { from.at + from.len < 2 ^ 32 }
+    ensures { result ≡ record { at = from.at + done; len = min (from.len - done) unit } }
+{
+    Region {
+        at: from.at + done,
+        len: (from.len - done).min(unit),
+    }
+}
+
 impl Long {
     pub(crate) fn new(segments: Segments, shell: Shell) -> Long
         ensures { result.segments ≡ segments }
@@ -74,6 +87,31 @@ impl Long {
         ensures same { self.new.segments ≡ self.old.segments }
     {
         self.segments.part(alloc, from)
+    }
+
+    /// Returns owners of a region's bytes in parts of `unit` bytes, the last of which may be
+    /// shorter. Each part that lies in one segment is shared, else copied.
+    pub(crate) fn parts(
+        &mut self,
+        alloc: Global,
+        from: Region,
+        unit: u32,
+    ) -> Result<Vec<Bytes>, AllocError>
+        requires inside { Inside (length self.old.segments.bytes) from }
+        requires some { 0 < unit }
+        ensures ok { IfOk result (λ parts. all_rows parts.items ≡ read_of self.old.segments.bytes from) }
+        ensures same { self.new.segments ≡ self.old.segments }
+    {
+        let _size = self.segments.size();
+        let mut parts = Vec::new(alloc);
+        let mut done = 0;
+        while done < from.len {
+            let piece = part_behind(from, done, unit);
+            let part = self.part(alloc, piece)?;
+            parts.push(part)?;
+            done += piece.len;
+        }
+        Ok(parts)
     }
 
     /// Replaces the combination whose result is awaited.

@@ -5,5 +5,6 @@ pub mod Instances
 pub mod Rows
 -- what functions promise one another: what the fields show, and what a loan leaves
 pub mod Lends
+pub mod MessageBytes
 pub mod Messages
 pub mod Views

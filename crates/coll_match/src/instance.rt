@@ -8,7 +8,8 @@ ghost use Rattle.coll_sched.specs.Worlds.{put_mail};
 ghost use Rattle.coll_match.specs.Held.{HasJoined, IsOver, given_in, mail_in, seat_in};
 
 use crate::envelope::Envelope;
-use crate::mailbox::{Mailbox, Message};
+use crate::mailbox::Mailbox;
+use crate::message::Message;
 use coll_bytes::Bytes;
 use coll_kinds::Refused;
 use std::alloc::{AllocError, Global};

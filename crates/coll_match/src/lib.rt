@@ -7,6 +7,7 @@
 //! | Module | Has |
 //! |---|---|
 //! | `envelope` | `Envelope`, the receiver and the round of a message |
+//! | `message` | `Message`, whose bytes lie in one piece or in several |
 //! | `mailbox` | `Mailbox`, the messages of one member |
 //! | `instance` | `Instance`, what stands of one |
 //! | `matches` | `Matches`, all that stand |
@@ -16,7 +17,8 @@ mod envelope;
 mod instance;
 mod mailbox;
 mod matches;
+mod message;
 
 pub use coll_machine::Key;
-pub use mailbox::Message;
 pub use matches::Matches;
+pub use message::{Message, MessageParts};

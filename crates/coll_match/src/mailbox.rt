@@ -4,13 +4,10 @@ ghost use Rattle.coll_kinds.specs.declared.refusal.Refused.{Refused};
 ghost use Rattle.coll_match.specs.Held.{put_sent, same_envelope, sent_in};
 
 use crate::envelope::Envelope;
-use coll_bytes::Bytes;
+use crate::message::Message;
 use coll_kinds::{Refusal, Refused};
 use std::alloc::Global;
 use std::marker::Model;
-
-/// The bytes of a message, which the sender may go on to have.
-pub type Message = Bytes;
 
 /// A message that wasn't taken yet.
 #[derive(Debug, Drop)]

@@ -7,7 +7,7 @@ ghost use Rattle.coll_match.specs.Instances.{size, standing};
 
 use crate::envelope::Envelope;
 use crate::instance::{Instance, SpareShares};
-use crate::mailbox::Message;
+use crate::message::Message;
 use coll_bytes::Bytes;
 use coll_kinds::{Refusal, Refused};
 use coll_machine::Key;

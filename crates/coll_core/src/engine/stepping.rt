@@ -160,7 +160,8 @@ impl Core {
         let Ok(request) = self.arena.get_mut(ticket) else {
             unreachable!()
         };
-        let message = request.buffer.part(self.alloc, from)?;
+        let unit = request.unit();
+        let message = request.buffer.message(self.alloc, from, unit)?;
         let key = request.key();
         let hint = request.hint;
         let member = request.plan.member();
@@ -193,7 +194,8 @@ impl Core {
         let Some(message) = self.matches.take(key, hint, of, member, round) else {
             unreachable!()
         };
-        request.buffer.write(into, message);
+        let _unit = request.unit();
+        request.buffer.receive(into, message);
         advance(&mut self.arena, &self.matches, ticket)
     }
 
@@ -209,7 +211,8 @@ impl Core {
         let Ok(request) = self.arena.get_mut(ticket) else {
             unreachable!()
         };
-        request.buffer.act(self.alloc, action)?;
+        let unit = request.unit();
+        request.buffer.act(self.alloc, action, unit)?;
         Ok(advance(&mut self.arena, &self.matches, ticket))
     }
 

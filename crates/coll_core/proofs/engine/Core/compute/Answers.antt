@@ -1,4 +1,4 @@
-use Rattle.std.proofs.Common.{◌∙◌, ap, refl, sym, subst}
+use Rattle.std.proofs.Common.{◌∙◌, ◌<◌, ◌^◌, ap, refl, sym, subst}
 use Rattle.coll_sched.specs.Actions.{Fits}
 use Rattle.coll_arena.specs.Slots.{Slots}
 use Rattle.coll_core.specs.declared.request.Request.{Request}
@@ -13,6 +13,11 @@ pub act-requires-clause-fits : goal.act-requires-clause-fits
 act-requires-clause-fits c =
     let at = acts_at _ c.args.self.now c.args.ticket c.in-Ok.request.now c.args.action c.self.view_is c.requires.acting c.in-Ok.ensures.found in
     subst (λ n. Fits n c.args.action) (sym at.filled) at.fits
+
+pub act-requires-clause-small : goal.act-requires-clause-small
+act-requires-clause-small c =
+    let at = acts_at _ c.args.self.now c.args.ticket c.in-Ok.request.now c.args.action c.self.view_is c.requires.acting c.in-Ok.ensures.found in
+    subst (λ n. n < 2 ^ 32) (sym at.filled) c.unit-unit.ensures
 
 pub invariant_of-self : goal.invariant_of-self
 invariant_of-self c =

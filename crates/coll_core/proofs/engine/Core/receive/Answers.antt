@@ -1,4 +1,4 @@
-use Rattle.std.proofs.Common.{ap, refl, subst}
+use Rattle.std.proofs.Common.{ap, arith, refl, subst}
 use Rattle.coll_sched.specs.declared.action.Action.TheVariants.{Recv}
 use Rattle.coll_core.specs.Cores.{Parts}
 use Rattle.coll_core.specs.Steps.{Acts}
@@ -8,8 +8,14 @@ use Rattle.coll_core.proofs.between.FirstOfReady.{acts_at}
 use Rattle.coll_match.specs.Instances.{LookUps}
 use Rattle.coll_core.proofs.engine.Core.receive.Goals as goal
 
-pub write-requires-clause-same : goal.write-requires-clause-same
-write-requires-clause-same c =
+pub receive-requires-clause-fits : goal.receive-requires-clause-fits
+receive-requires-clause-fits c =
+    let x = c.in-Ok.request.now in
+    let at = acts_at _ c.args.self.now c.args.ticket x (Recv c.args.of c.args.into) c.self.view_is c.requires c.in-Ok.ensures.found in
+    omega (arith, at.fits, c.unit-unit.ensures)
+
+pub receive-requires-clause-same : goal.receive-requires-clause-same
+receive-requires-clause-same c =
     let x = c.in-Ok.request.now in
     let at = acts_at _ c.args.self.now c.args.ticket x (Recv c.args.of c.args.into) c.self.view_is c.requires c.in-Ok.ensures.found in
     message_long _ c.args.ticket x c.args.of c.args.into c.in-Some.message c.self.invariant at
@@ -29,7 +35,7 @@ invariant_of-self c =
     let at = acts_at _ c.args.self.now c.args.ticket x (Recv c.args.of c.args.into) c.self.view_is c.requires c.in-Ok.ensures.found in
     (received c.self.inside.ranks c.self.inside.starts c.self.inside.trace c.self.inside.arena c.advance.new.arena
     c.self.inside.queues c.self.inside.matches c.take.new.self
-    c.args.ticket x _ c.args.of c.args.into c.in-Some.message c.write.new.self c.advance.result c.is_sound.ensures c.self.invariant at
+    c.args.ticket x _ c.args.of c.args.into c.in-Some.message c.receive.new.self c.advance.result c.is_sound.ensures c.self.invariant at
     (record {
       members = (ap (λ (s : LookUps). s.members) c.take.ensures.gone);
       given =
@@ -40,7 +46,7 @@ invariant_of-self c =
     c.member-member.ensures.member c.in-Some.message c.in-Some.ensures.taken)
     (message_taken c.self.inside.matches x c.args.of c.key-key.result c.member-member.result c.key-key.ensures
     c.member-member.ensures.member c.take.new.self (ap (λ (s : LookUps). s.mail) c.take.ensures.gone))
-    c.write.ensures
+    c.receive.ensures
     (record { is = refl; round_is = refl; index_is = refl; buf = refl }) c.advance.ensures).0
 
 pub returns : goal.returns
@@ -52,7 +58,7 @@ returns c =
     c.self.view_is
     (received c.self.inside.ranks c.self.inside.starts c.self.inside.trace c.self.inside.arena c.advance.new.arena
     c.self.inside.queues c.self.inside.matches c.take.new.self
-    c.args.ticket x _ c.args.of c.args.into c.in-Some.message c.write.new.self c.advance.result c.is_sound.ensures c.self.invariant at
+    c.args.ticket x _ c.args.of c.args.into c.in-Some.message c.receive.new.self c.advance.result c.is_sound.ensures c.self.invariant at
     (record {
       members = (ap (λ (s : LookUps). s.members) c.take.ensures.gone);
       given =
@@ -63,5 +69,5 @@ returns c =
     c.member-member.ensures.member c.in-Some.message c.in-Some.ensures.taken)
     (message_taken c.self.inside.matches x c.args.of c.key-key.result c.member-member.result c.key-key.ensures
     c.member-member.ensures.member c.take.new.self (ap (λ (s : LookUps). s.mail) c.take.ensures.gone))
-    c.write.ensures
+    c.receive.ensures
     (record { is = refl; round_is = refl; index_is = refl; buf = refl }) c.advance.ensures).1

@@ -15,8 +15,8 @@ use Rattle.coll_match.specs.Instances.{LookUps}
 use Rattle.coll_refinement.specs.Engines.{Delivers}
 use Rattle.coll_core.proofs.engine.Core.send.Goals as goal
 
-pub part-requires : goal.part-requires
-part-requires c =
+pub message-requires : goal.message-requires
+message-requires c =
     let at = acts_at _ c.args.self.now c.args.ticket c.in-Ok.request.now (Send c.args.to c.args.from) c.self.view_is c.requires c.in-Ok.ensures.found in
     subst (λ n. Fits n (Send c.args.to c.args.from)) (sym at.filled) at.fits
 
@@ -37,7 +37,7 @@ put-requires-clause-new c =
 pub deliver-requires : goal.deliver-requires
 deliver-requires c = record {
   lists = subst HaveLists
-      (sym (same_written c.self.inside.arena c.args.ticket.slot c.in-Ok.request.now c.part.new.self c.in-Ok.ensures.found c.part.ensures.same))
+      (sym (same_written c.self.inside.arena c.args.ticket.slot c.in-Ok.request.now c.message.new.self c.in-Ok.ensures.found c.message.ensures.same))
       (have_lists (parts c.self.inside.ranks c.self.inside.starts c.self.inside.trace c.self.inside.arena c.self.inside.queues
       c.self.inside.matches) c.self.invariant);
   sent = stands_sent c.self.inside.matches c.put.new.self c.key-key.result c.member-member.result c.args.to
@@ -52,19 +52,20 @@ advance-requires c =
     can_go_then _ c.deliver.new.arena c.args.ticket x c.args.to c.args.from at
     (stood c.self.inside.arena c.deliver.new.arena c.put.new.self c.key-key.result c.args.to c.args.ticket x at.live at.here
     at.on_ready (subst (λ (a : Slots Request). Delivers shown a c.deliver.new.arena c.put.new.self c.key-key.result
-    c.args.to) (same_written c.self.inside.arena c.args.ticket.slot c.in-Ok.request.now c.part.new.self c.in-Ok.ensures.found
-    c.part.ensures.same) c.deliver.ensures.delivers))
+    c.args.to) (same_written c.self.inside.arena c.args.ticket.slot c.in-Ok.request.now c.message.new.self c.in-Ok.ensures.found
+    c.message.ensures.same) c.deliver.ensures.delivers))
 
 pub invariant_of-self : goal.invariant_of-self
 invariant_of-self c =
     subst (λ (a : Slots Request). IsCore (parts c.self.inside.ranks c.self.inside.starts c.self.inside.trace a c.self.inside.queues c.self.inside.matches))
-    (sym (same_written c.self.inside.arena c.args.ticket.slot c.in-Ok.request.now c.part.new.self c.in-Ok.ensures.found c.part.ensures.same)) c.self.invariant
+    (sym (same_written c.self.inside.arena c.args.ticket.slot c.in-Ok.request.now c.message.new.self c.in-Ok.ensures.found
+    c.message.ensures.same)) c.self.invariant
 
 pub returns-in_err-message-clause-err : goal.returns-in_err-message-clause-err
 returns-in_err-message-clause-err c =
     on_err c.from_residual.result _
     (ap (λ (a : Slots Request). parts c.self.inside.ranks c.self.inside.starts c.self.inside.trace a c.self.inside.queues c.self.inside.matches)
-    (same_written c.self.inside.arena c.args.ticket.slot c.in-Ok.request.now c.part.new.self c.in-Ok.ensures.found c.part.ensures.same) ∙ c.self.view_is)
+    (same_written c.self.inside.arena c.args.ticket.slot c.in-Ok.request.now c.message.new.self c.in-Ok.ensures.found c.message.ensures.same) ∙ c.self.view_is)
 
 pub invariant_of-self-2 : goal.invariant_of-self-2
 invariant_of-self-2 c =
@@ -83,10 +84,10 @@ invariant_of-self-2 c =
     })
     (ap (λ (s : LookUps). s.mail) c.in-Ok-put.ensures.kept)
     (subst (λ (a : Slots Request). Delivers shown a c.deliver.new.arena c.put.new.self c.key-key.result c.args.to)
-    (same_written c.self.inside.arena c.args.ticket.slot c.in-Ok.request.now c.part.new.self c.in-Ok.ensures.found c.part.ensures.same)
+    (same_written c.self.inside.arena c.args.ticket.slot c.in-Ok.request.now c.message.new.self c.in-Ok.ensures.found c.message.ensures.same)
     c.deliver.ensures.delivers)
     (subst (λ (a : Slots Request). Brings a c.deliver.new.arena c.put.new.self c.key-key.result c.args.to)
-    (same_written c.self.inside.arena c.args.ticket.slot c.in-Ok.request.now c.part.new.self c.in-Ok.ensures.found c.part.ensures.same)
+    (same_written c.self.inside.arena c.args.ticket.slot c.in-Ok.request.now c.message.new.self c.in-Ok.ensures.found c.message.ensures.same)
     c.deliver.ensures.others) c.deliver.ensures.running c.deliver.ensures.first c.advance.ensures).0
 
 pub returns-clause-acts : goal.returns-clause-acts
@@ -109,8 +110,8 @@ returns-clause-acts c =
     })
     (ap (λ (s : LookUps). s.mail) c.in-Ok-put.ensures.kept)
     (subst (λ (a : Slots Request). Delivers shown a c.deliver.new.arena c.put.new.self c.key-key.result c.args.to)
-    (same_written c.self.inside.arena c.args.ticket.slot c.in-Ok.request.now c.part.new.self c.in-Ok.ensures.found c.part.ensures.same)
+    (same_written c.self.inside.arena c.args.ticket.slot c.in-Ok.request.now c.message.new.self c.in-Ok.ensures.found c.message.ensures.same)
     c.deliver.ensures.delivers)
     (subst (λ (a : Slots Request). Brings a c.deliver.new.arena c.put.new.self c.key-key.result c.args.to)
-    (same_written c.self.inside.arena c.args.ticket.slot c.in-Ok.request.now c.part.new.self c.in-Ok.ensures.found c.part.ensures.same)
+    (same_written c.self.inside.arena c.args.ticket.slot c.in-Ok.request.now c.message.new.self c.in-Ok.ensures.found c.message.ensures.same)
     c.deliver.ensures.others) c.deliver.ensures.running c.deliver.ensures.first c.advance.ensures).1

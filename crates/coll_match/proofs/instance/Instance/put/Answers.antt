@@ -30,6 +30,12 @@ returns-clause-mail c =
     c.args.envelope.to c.args.envelope.round (Some c.args.message) c.in_ok-put.ensures.sent
     ∙ (λ z. put_mail (mail_in (c.self.view_is z)) (c.from.ensures z) c.args.envelope.to c.args.envelope.round (Some c.args.message))
 
+pub invariant_of-self : goal.invariant_of-self
+invariant_of-self c =
+    share_joined c.self.inside.joined c.self.inside.shares.items c.from.result
+    (record { given = c.index_mut.result.now.given; slot = c.index_mut.result.now.slot; mailbox = c.put.new.self }) c.index_mut.result.now
+    (low_share _ _ _ _ c.self.view_is c.requires.member c.from.ensures) c.index_mut.ensures.value refl c.self.invariant
+
 pub invariant_of-self-2 : goal.invariant_of-self-2
 invariant_of-self-2 c =
     share_joined c.self.inside.joined c.self.inside.shares.items c.from.result

@@ -1,4 +1,4 @@
-use Rattle.std.proofs.Common.{◌≡◌, ◌∙◌, ap, subst, sym, position, List, Option, Some, None}
+use Rattle.std.proofs.Common.{◌≡◌, ◌∙◌, ap, subst, sym, position, List, Some, None}
 use Rattle.std.specs.Map.{lookup}
 use Rattle.coll_match.specs.declared.mailbox.Unreceived.{Unreceived}
 use Rattle.coll_match.specs.Held.{put_sent, same_envelope, sent_in}
