@@ -2,6 +2,7 @@ ghost use Rattle.std.specs.Prelude.{◌≡◌, ◌+◌, ◌<◌, ◌≤◌, ◌^
 ghost use Rattle.std.specs.Arc.{arc_value};
 ghost use Rattle.coll_sched.specs.Regions.{Inside, read_of};
 
+use crate::blocks::{Block, Blocks};
 use coll_sched::Region;
 use std::alloc::{AllocError, Global};
 use std::marker::Model;
@@ -27,7 +28,7 @@ enum Memory {
     },
     /// A part of a block that counts its owners.
     Shared {
-        block: Arc<Vec<u8>>,
+        block: Arc<Block>,
         place: Region,
     },
 }
@@ -62,10 +63,10 @@ fn owned(block: Vec<u8>, place: Region) -> Bytes
 }
 
 // Makes bytes of a part of a block that counts its owners.
-pub(crate) fn shared(block: Arc<Vec<u8>>, place: Region) -> Bytes
-    requires inside { Inside (length (arc_value block).items) place }
+pub(crate) fn shared(block: Arc<Block>, place: Region) -> Bytes
+    requires inside { Inside (length (arc_value block).bytes.items) place }
     requires fits { place.at + place.len < 2 ^ 32 }
-    ensures { result ≡ read_of (arc_value block).items place }
+    ensures { result ≡ read_of (arc_value block).bytes.items place }
 {
     Bytes {
         memory: Memory::Shared { block, place },
@@ -93,11 +94,11 @@ fn owned_part(block: Vec<u8>, place: Region, from: Region) -> Bytes
 
 // Cuts a region out of a part of a block that counts its owners.
 #[tactic(auto, using(crate::proofs::Parts::read_read))]
-fn shared_part(block: Arc<Vec<u8>>, place: Region, from: Region) -> Bytes
-    requires inside { Inside (length (arc_value block).items) place }
+fn shared_part(block: Arc<Block>, place: Region, from: Region) -> Bytes
+    requires inside { Inside (length (arc_value block).bytes.items) place }
     requires fits { place.at + place.len < 2 ^ 32 }
     requires part { Inside place.len from }
-    ensures { result ≡ read_of (read_of (arc_value block).items place) from }
+    ensures { result ≡ read_of (read_of (arc_value block).bytes.items place) from }
 {
     Bytes {
         memory: Memory::Shared {
@@ -184,6 +185,27 @@ impl Bytes {
         owned(bytes, place)
     }
 
+    /// Takes the bytes of a vector in a block that counts its owners. The vector goes back to `home`
+    /// once the last of them is dropped.
+    ///
+    /// # Errors
+    ///
+    /// No memory for the count.
+    pub fn from_block(
+        alloc: Global,
+        bytes: Vec<u8>,
+        home: Option<Blocks>,
+    ) -> Result<Bytes, AllocError>
+        requires { length bytes.items < 2 ^ 32 }
+        ensures { IfOk result (λ made. made ≡ bytes.items) }
+    {
+        if bytes.len() <= FEW {
+            return Ok(Bytes::from_vec(bytes));
+        }
+        let place = Region::front(bytes.len() as u32);
+        Ok(shared(Arc::new(alloc, Block::new(bytes, home))?, place))
+    }
+
     /// Copies bytes. Up to `FEW` take no memory.
     pub fn copy(alloc: Global, bytes: &[u8]) -> Result<Bytes, AllocError>
         requires { length bytes.now < 2 ^ 32 }
@@ -204,7 +226,7 @@ impl Bytes {
         match &self.memory {
             Memory::InPlace { row, len, .. } => &row[..*len as usize],
             Memory::Owned { block, place } => place.read(block),
-            Memory::Shared { block, place } => place.read(block),
+            Memory::Shared { block, place } => place.read(&block.bytes),
         }
     }
 
@@ -290,9 +312,9 @@ impl Bytes {
     {
         let Bytes { memory } = std::mem::replace(self, Bytes::empty());
         let (counted, done) = match memory {
-            Memory::Owned { block, place } => match Arc::new(alloc, block) {
+            Memory::Owned { block, place } => match Arc::new(alloc, Block::new(block, None)) {
                 Ok(block) => (shared(block, place), Ok(())),
-                Err(failed) => (owned(failed.value, place), Err(AllocError)),
+                Err(failed) => (owned(failed.value.into_bytes(), place), Err(AllocError)),
             },
             memory => (Bytes { memory }, Ok(())),
         };
@@ -397,7 +419,7 @@ impl Bytes {
         match memory {
             Memory::Owned { block, place } => Ok(front_of(block, place)),
             Memory::Shared { block, place } => match Arc::try_unwrap(block) {
-                Ok(block) => Ok(front_of(block, place)),
+                Ok(block) => Ok(front_of(block.into_bytes(), place)),
                 Err(block) => Err(shared(block, place)),
             },
             memory => Err(Bytes { memory }),

@@ -4,18 +4,21 @@
 //! | Module | Has |
 //! |---|---|
 //! | `bytes` | `Bytes`: up to `FEW` bytes in place, or a part of a block on the heap |
+//! | `blocks` | `Blocks`: vectors that are used again; `Block`, of several owners |
 //! | `shell` | `Shell`: the count of owners of a block whose bytes are put together later |
 //! | `segments` | `Segments`: a schedule's buffer |
 //! | `segment` | one write into a buffer, and how a region lies beside it |
 //! | `composed` | a region whose bytes lie in several segments, put together |
 #![tactic(auto)]
 
+mod blocks;
 mod bytes;
 mod composed;
 mod segment;
 mod segments;
 mod shell;
 
+pub use blocks::Blocks;
 pub use bytes::{Bytes, FEW, copy_few};
 pub use segments::{Segments, WRITES_IN_PLACE};
 pub use shell::Shell;

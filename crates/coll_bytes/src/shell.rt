@@ -1,5 +1,6 @@
 ghost use Rattle.std.specs.Prelude.{◌≡◌, ◌<◌, ◌^◌, length};
 
+use crate::blocks::Block;
 use crate::bytes::{Bytes, FEW, shared};
 use coll_sched::Region;
 use std::alloc::Global;
@@ -9,14 +10,14 @@ use std::sync::Arc;
 /// put together later can have several owners without taking memory then.
 #[derive(Debug, Drop)]
 pub struct Shell {
-    block: Option<Arc<Vec<u8>>>,
+    block: Option<Arc<Block>>,
 }
 
 impl Shell {
     /// Takes memory for a count. Without memory the shell is empty.
     pub fn new(alloc: Global) -> Shell {
         Shell {
-            block: Arc::new(alloc, Vec::new(alloc)).ok(),
+            block: Arc::new(alloc, Block::new(Vec::new(alloc), None)).ok(),
         }
     }
 
@@ -39,7 +40,7 @@ impl Shell {
         };
         let place = Region::front(bytes.len() as u32);
         match Arc::get_mut(&mut block) {
-            Some(room) => *room = bytes,
+            Some(room) => room.bytes = bytes,
             None => return Bytes::from_vec(bytes),
         }
         shared(block, place)

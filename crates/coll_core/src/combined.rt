@@ -1,10 +1,10 @@
-ghost use Rattle.std.specs.Prelude.{◌≡◌, ◌≤◌, ◌%◌, ◌++◌, length, IfOk, IsOkUnless, IsTrue, OnOk};
+ghost use Rattle.std.specs.Prelude.{◌≡◌, ◌≤◌, ◌%◌, ◌++◌, [], length, vec_len, IfOk, IsOkUnless, IsTrue, OnOk};
 ghost use Rattle.coll_kinds.specs.Checks.{allowed};
 ghost use Rattle.coll_kinds.specs.Elements.{width};
 ghost use Rattle.coll_ops.specs.Combinations.{combined as combination};
 
 use crate::buffer::SHORT;
-use coll_bytes::{Bytes, FEW};
+use coll_bytes::{Blocks, Bytes, FEW};
 use coll_kinds::{Datatype, Op, Refusal};
 use coll_ops::combine_into;
 use std::alloc::{AllocError, Global};
@@ -49,10 +49,10 @@ fn append_combination(
     Ok(())
 }
 
-/// Combines two rows block by block. A block is still in the cache when it is combined after its
-/// copy, and no zeros are written before it.
+/// Combines two rows block by block in an empty vector. A block is still in the cache when it is
+/// combined after its copy, and no zeros are written before it.
 fn combined_row(
-    alloc: Global,
+    room: Vec<u8>,
     op: Op,
     ty: Datatype,
     left: &[u8],
@@ -61,10 +61,12 @@ fn combined_row(
     requires allowed { IsTrue (allowed op ty) }
     requires whole { length left.now % width ty ≡ 0 }
     requires same { length right.now ≡ length left.now }
+    requires empty { room.items ≡ [] }
+    requires none { vec_len room ≡ 0 }
     ensures is { IfOk result (λ row. row.items ≡ combination op ty left.now right.now) }
     ensures long { IfOk result (λ row. length row.items ≡ length left.now) }
 {
-    let mut row = Vec::with_capacity(alloc, left.len())?;
+    let mut row = room;
     let mut done = 0;
     while done < left.len() {
         let end = done + (left.len() - done).min(BLOCK);
@@ -76,7 +78,7 @@ fn combined_row(
 
 /// Combines two operands; `left` is the first. The only refusal is NoMemory; up to `FEW` bytes take
 /// no memory. The block of a long result counts its owners, because the result is sent on or
-/// becomes the outcome.
+/// becomes the outcome. If there are blocks, the result is put into one of them, which comes back.
 #[inline(always)]
 pub(crate) fn combined(
     alloc: Global,
@@ -84,6 +86,7 @@ pub(crate) fn combined(
     ty: Datatype,
     left: &Bytes,
     right: &Bytes,
+    blocks: Option<&Blocks>,
 ) -> Result<Bytes, Refusal>
     requires allowed { IsTrue (allowed op ty) }
     requires whole { length left.now % width ty ≡ 0 }
@@ -96,10 +99,19 @@ pub(crate) fn combined(
     if len <= FEW {
         return Ok(combined_few(op, ty, left.as_slice(), right.as_slice()));
     }
-    let row = combined_row(alloc, op, ty, left.as_slice(), right.as_slice())?;
-    let mut result = Bytes::from_vec(row);
-    if len > SHORT as usize {
-        result.count_owners(alloc)?;
+    if len <= SHORT as usize {
+        let room = Vec::with_capacity(alloc, len)?;
+        let row = combined_row(room, op, ty, left.as_slice(), right.as_slice())?;
+        return Ok(Bytes::from_vec(row));
     }
-    Ok(result)
+    let room = match blocks {
+        Some(blocks) => blocks.take(alloc, len)?,
+        None => Vec::with_capacity(alloc, len)?,
+    };
+    let row = combined_row(room, op, ty, left.as_slice(), right.as_slice())?;
+    let home = match blocks {
+        Some(blocks) => blocks.share(),
+        None => None,
+    };
+    Ok(Bytes::from_block(alloc, row, home)?)
 }

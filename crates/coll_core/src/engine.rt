@@ -30,6 +30,7 @@ use crate::request::Request;
 use crate::shared_result::InstanceResults;
 use coll_arena::laws::is_sound;
 use coll_arena::{Arena, ListName, Ticket};
+use coll_bytes::Blocks;
 use coll_kinds::Refusal;
 use coll_match::Matches;
 use coll_queues::Queues;
@@ -49,6 +50,8 @@ pub struct Core {
     matches: Matches,
     /// Long results that other members of the instance may share. No contract sees them.
     results: Option<Box<InstanceResults>>,
+    /// Memory for the results of long combinations.
+    blocks: Blocks,
 }
 
 impl Model for Core {
@@ -87,6 +90,7 @@ impl Core {
             queues,
             matches: Matches::new(alloc),
             results: None,
+            blocks: Blocks::new(alloc)?,
         })
     }
 

@@ -20,7 +20,7 @@ use crate::shared_result::{InstanceResults, LONG, share};
 use crate::short_work::{DoneShortWork, ShortWork};
 use crate::work::{DoneWork, Work};
 use coll_arena::{ListName, Ticket};
-use coll_bytes::Bytes;
+use coll_bytes::{Blocks, Bytes};
 use coll_kinds::{Datatype, Kind, Op, Refusal};
 use coll_match::{Key, Matches};
 use coll_plans::Plan;
@@ -149,6 +149,7 @@ impl Request {
         alloc: Global,
         ticket: Ticket,
         results: &mut Option<Box<InstanceResults>>,
+        blocks: &Blocks,
     ) -> Result<Work, Refusal>
         requires combine { IfSome (next_of (shown self.old)) IsCombine }
         requires some { next_of (shown self.old) ≢ None }
@@ -177,8 +178,13 @@ impl Request {
         } else {
             None
         };
+        let blocks = if left.len >= LONG {
+            blocks.share()
+        } else {
+            None
+        };
         let mut work = Work::new(
-            alloc, ticket, self.round, self.index, op, ty, first, second, shared,
+            alloc, ticket, self.round, self.index, op, ty, first, second, shared, blocks,
         );
         if left.len >= LONG {
             self.buffer.await_result(alloc, &mut work, left, right);

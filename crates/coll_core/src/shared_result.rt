@@ -18,7 +18,7 @@ use std::sync::Arc;
 pub(crate) const LONG: u32 = 4_096;
 
 /// A member spins once per this many bytes of a result, before it computes the result itself.
-const BYTES_A_LOOK: usize = 64;
+const BYTES_A_LOOK: usize = 16;
 
 /// A combination that was computed, with its operands.
 #[derive(Drop)]

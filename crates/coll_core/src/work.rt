@@ -5,7 +5,7 @@ use crate::combined::combined;
 use crate::result_cell::ResultCell;
 use crate::shared_result::SharedResult;
 use boxcar::tag::{Names, Tag};
-use coll_bytes::Bytes;
+use coll_bytes::{Blocks, Bytes};
 use coll_kinds::{Datatype, Op, Refusal, Refused, Ticket};
 use std::alloc::Global;
 use std::marker::Model;
@@ -26,6 +26,8 @@ pub struct Work {
     shared: Option<SharedResult>,
     /// The cell in which the engine finds the result.
     cell: Option<ResultCell>,
+    /// Where the memory for a long result comes from.
+    blocks: Option<Blocks>,
 }
 
 impl Model for Work {
@@ -78,6 +80,7 @@ impl Work {
         left: Bytes,
         right: Bytes,
         shared: Option<SharedResult>,
+        blocks: Option<Blocks>,
     ) -> Work
         requires { IsPiece (record { ticket = ticket; round = round; index = index; op = op; ty = ty; left = left; right = right }) }
         ensures { result ≡ record { ticket = ticket; round = round; index = index; op = op; ty = ty; left = left; right = right } }
@@ -93,6 +96,7 @@ impl Work {
             right,
             shared,
             cell: None,
+            blocks,
         }
     }
 
@@ -204,6 +208,7 @@ impl Work {
             right: _,
             shared: _,
             cell: _,
+            blocks: _,
         } = self;
     }
 
@@ -213,14 +218,15 @@ impl Work {
     fn found_or_combined(&self) -> Result<Bytes, Refusal>
         ensures ok { IfOk result (λ bytes. bytes ≡ result_of self.now) }
     {
-        let Some(shared) = &self.shared else {
-            return combined(self.alloc, self.op, self.ty, &self.left, &self.right);
-        };
         let (left, right) = (&self.left, &self.right);
+        let blocks = self.blocks.as_ref();
+        let Some(shared) = &self.shared else {
+            return combined(self.alloc, self.op, self.ty, left, right, blocks);
+        };
         if let Some(bytes) = shared.find(self.op, self.ty, left.as_slice(), right.as_slice()) {
             return Ok(bytes);
         }
-        let bytes = combined(self.alloc, self.op, self.ty, left, right)?;
+        let bytes = combined(self.alloc, self.op, self.ty, left, right, blocks)?;
         shared.tell(self.alloc, self.op, self.ty, (left, right), &bytes);
         Ok(bytes)
     }

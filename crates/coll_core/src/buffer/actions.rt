@@ -128,7 +128,7 @@ impl Buffer {
         }
         let first = self.part(alloc, left)?;
         let second = self.part(alloc, right)?;
-        combined(alloc, op, ty, &first, &second)
+        combined(alloc, op, ty, &first, &second, None)
     }
 
     /// Carries out a Copy or a Combine within the buffer. A Copy of several blocks of `unit` bytes

@@ -246,7 +246,7 @@ impl Core {
         let Ok(request) = self.arena.get_mut(ticket) else {
             unreachable!()
         };
-        let work = request.work(self.alloc, ticket, &mut self.results)?;
+        let work = request.work(self.alloc, ticket, &mut self.results, &self.blocks)?;
         let Ok(()) = self.arena.shift(ticket, ListName::Running) else {
             unreachable!()
         };
