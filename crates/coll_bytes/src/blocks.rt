@@ -1,6 +1,6 @@
 //! Blocks that come back once their last owner is dropped.
 
-ghost use Rattle.std.specs.Prelude.{◌≡◌, ◌≤◌, [], IfOk, IfSome, vec_capacity, vec_len};
+ghost use Rattle.std.specs.Prelude.{◌≡◌, ◌<◌, ◌≤◌, [], length, IfOk, IfSome, vec_capacity, vec_len};
 
 use std::alloc::{AllocError, Global};
 use std::fmt;
@@ -17,6 +17,20 @@ const KEPT: usize = 64;
 #[derive(Drop)]
 pub struct Blocks {
     kept: Arc<Mutex<Vec<Vec<u8>>>>,
+}
+
+// Returns the index of the last vector of that length.
+fn place_of(kept: &[Vec<u8>], len: usize) -> Option<usize>
+    ensures { IfSome result (λ at. at < length kept.now) }
+{
+    let mut at = kept.len();
+    while at > 0 {
+        at -= 1;
+        if kept[at].capacity() == len {
+            return Some(at);
+        }
+    }
+    None
 }
 
 impl fmt::Debug for Blocks {
@@ -43,8 +57,7 @@ impl Blocks {
         Some(Blocks { kept })
     }
 
-    /// Returns an empty vector for a row: the vector that was kept last if it is as long, else a new
-    /// one.
+    /// Returns an empty vector for a row: one as long that was kept, else a new one.
     ///
     /// # Errors
     ///
@@ -60,13 +73,13 @@ impl Blocks {
         Vec::with_capacity(alloc, len)
     }
 
-    // Returns the vector that was kept last, if it is as long as the row.
+    // Returns the vector of that length that was kept last.
     fn take_kept(&self, len: usize) -> Option<Vec<u8>>
         ensures empty { IfSome result (λ room. room.items ≡ []) }
         ensures none { IfSome result (λ room. vec_len room ≡ 0) }
         ensures room { IfSome result (λ room. len ≤ vec_capacity room) }
     {
-        let mut room = self.last()?;
+        let mut room = self.last_of(len)?;
         if room.capacity() != len {
             return None;
         }
@@ -74,20 +87,23 @@ impl Blocks {
         Some(room)
     }
 
-    // Takes the vector out that was kept last.
-    fn last(&self) -> Option<Vec<u8>> {
+    // Takes the vector of that length out that was kept last.
+    fn last_of(&self, len: usize) -> Option<Vec<u8>> {
         let mut kept = self.kept.try_lock()?;
-        kept.pop()
+        let at = place_of(&kept, len)?;
+        Some(kept.remove(at))
     }
 
-    /// Keeps a vector for a later row, or frees it. Takes no memory.
+    /// Keeps a vector for a later row in place of the one that was kept first, or frees it. Takes no
+    /// memory.
     pub fn keep(&self, room: Vec<u8>) {
         let Some(mut kept) = self.kept.try_lock() else {
             return;
         };
-        if kept.len() < KEPT {
-            let _ = kept.push(room);
+        if kept.len() >= KEPT {
+            let _first = kept.remove(0);
         }
+        let _ = kept.push(room);
     }
 }
 

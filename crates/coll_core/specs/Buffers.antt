@@ -23,6 +23,12 @@ pub record HasRoom (spare : Vec ℕ Global) (len : ℕ) : Type 0 where
   pub none : vec_len spare ≡ 0
   pub room : FEW < len → len ≤ vec_capacity spare
 
+-- bytes in one piece have memory for a copy of them
+abbrev pub HasSpare : Memory → Type 0
+HasSpare (InPlace row) = Unit {0}
+HasSpare (Together own spare) = HasRoom spare (length own.items)
+HasSpare (InSegments segmented) = Unit {0}
+
 -- few bytes need no memory; others have it for a copy of them, and, while they lie in segments, for them too
 abbrev pub HasRooms : Memory → Type 0
 HasRooms (InPlace row) = Unit {0}

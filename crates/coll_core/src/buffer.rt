@@ -1,24 +1,23 @@
 //! The bytes that a schedule's actions read and write.
 
 mod actions;
+mod laid;
 
 ghost use Rattle.std.specs.Prelude.{◌≡◌, ◌≤◌, ◌↔◌, [], length, IfOk, IfSome, IsOkUnless, IsTrue};
 ghost use Rattle.std.specs.Option.{ForSome};
 ghost use Rattle.coll_core.specs.Buffers.{HasRoom, HasRooms, IsRoom, bytes_of};
 ghost use Rattle.coll_ops.specs.Combinations.{combined as combination_of};
-ghost use Rattle.coll_sched.specs.Families.{laid_in};
 ghost use Rattle.coll_sched.specs.Regions.{Inside, read_of, written};
 
-use crate::buffer::actions::write_count;
-use crate::contribution::Contribution;
 use crate::long::{Awaited, Long};
 use crate::row::Row;
 use crate::word::{WORD, Word};
 use crate::work::Work;
-use coll_bytes::{Bytes, FEW, Segments, Shell};
+use coll_bytes::{Blocks, Bytes, FEW, Segments};
 use coll_kinds::Refusal;
 use coll_ops::are_same;
-use coll_sched::{Region, Schedule};
+use coll_sched::Region;
+pub use laid::Laid;
 use std::alloc::Global;
 use std::marker::Model;
 
@@ -26,7 +25,8 @@ use std::marker::Model;
 /// bytes costs more than copying them.
 pub(crate) const SHORT: u32 = 1_024;
 
-/// The memory of a long buffer until its bytes are put together.
+/// The memory of a long buffer until its bytes are put together. It comes from the engine's blocks,
+/// to which it mostly goes back without a byte written into it.
 #[derive(Debug, Drop)]
 struct Segmented {
     long: Long,
@@ -135,6 +135,26 @@ fn await_combination(long: &mut Long, alloc: Global, work: &mut Work, left: Regi
     long.set_awaited(awaited);
 }
 
+/// Returns another owner of a region's bytes: the one that is known, else of the segment that has
+/// all of them.
+fn known_or_whole(
+    known: Option<Bytes>,
+    segments: &mut Segments,
+    alloc: Global,
+    region: Region,
+) -> Option<Bytes>
+    requires inside { Inside (length segments.old.bytes) region }
+    requires known { ForSome known (λ bytes. bytes ≡ read_of segments.old.bytes region) }
+    ensures bytes { IfSome result (λ bytes. bytes ≡ read_of segments.old.bytes region) }
+    ensures same { segments.new ≡ segments.old }
+{
+    if known.is_some() {
+        return known;
+    }
+    segments.slice_of(region)?;
+    segments.part(alloc, region).ok()
+}
+
 impl Buffer {
     /// Returns a buffer without bytes. Takes no memory.
     pub fn empty(alloc: Global) -> Buffer
@@ -150,79 +170,6 @@ impl Buffer {
     {
         Buffer {
             memory: Memory::InPlace(row),
-        }
-    }
-
-    /// Makes the schedule's buffer: the contribution in its input region, zeros elsewhere. A long
-    /// buffer shares the contribution. The only refusal is NoMemory.
-    #[inline(always)]
-    pub(crate) fn lay_in(
-        alloc: Global,
-        schedule: &Schedule,
-        given: &mut Contribution,
-    ) -> Result<Buffer, Refusal>
-        requires { length given.old ≡ schedule.now.input.len }
-        ensures ok { IfOk result (λ buffer. buffer ≡ laid_in schedule.now given.old) }
-        ensures refusal { IsOkUnless result Refusal.NoMemory }
-        ensures same { given.new ≡ given.old }
-    {
-        let size = schedule.size();
-        if size as usize <= FEW {
-            return Ok(Buffer::few(Row::lay_in(schedule, given.as_slice())));
-        }
-        if size <= SHORT {
-            return Buffer::lay_short(alloc, schedule, given.as_slice());
-        }
-        let input = schedule.input();
-        let shared = given.share(alloc)?;
-        Buffer::lay_long(alloc, schedule, input, shared)
-    }
-
-    // Makes a buffer whose bytes lie together from the beginning.
-    fn lay_short(alloc: Global, schedule: &Schedule, bytes: &[u8]) -> Result<Buffer, Refusal>
-        requires { length bytes.now ≡ schedule.now.input.len }
-        ensures ok { IfOk result (λ buffer. buffer ≡ laid_in schedule.now bytes.now) }
-        ensures refusal { IsOkUnless result Refusal.NoMemory }
-    {
-        let own = schedule.lay_in(alloc, bytes)?;
-        let spare = Vec::with_capacity(alloc, own.len())?;
-        Ok(Buffer {
-            memory: Memory::Together { own, spare },
-        })
-    }
-
-    // Makes a buffer of segments, the first of which is the contribution. The contribution's block
-    // counts its owners from the beginning, because it may become the outcome.
-    fn lay_long(
-        alloc: Global,
-        schedule: &Schedule,
-        input: Region,
-        given: Bytes,
-    ) -> Result<Buffer, Refusal>
-        requires place { input ≡ schedule.now.input }
-        requires same { length given ≡ schedule.now.input.len }
-        ensures ok { IfOk result (λ buffer. buffer ≡ laid_in schedule.now given) }
-        ensures refusal { IsOkUnless result Refusal.NoMemory }
-    {
-        let size = schedule.size();
-        let writes = write_count(schedule.rounds(), input.len);
-        let mut first = given;
-        first.count_owners(alloc)?;
-        let mut segments = Segments::lay_in(alloc, size, input, first);
-        segments.reserve(writes)?;
-        let own = Vec::with_capacity(alloc, size as usize)?;
-        let spare = Vec::with_capacity(alloc, size as usize)?;
-        let shell = Shell::new(alloc);
-        let segmented = Segmented {
-            long: Long::new(segments, shell),
-            own,
-            spare,
-        };
-        match Box::new(alloc, segmented) {
-            Ok(segmented) => Ok(Buffer {
-                memory: Memory::InSegments(segmented),
-            }),
-            Err(_) => Err(Refusal::NoMemory),
         }
     }
 
@@ -349,13 +296,15 @@ impl Buffer {
 
     /// Takes the outcome's region out, together with memory for a copy of it, and leaves an empty
     /// buffer. If another owner of the same bytes is known, it is handed out, and the segments go
-    /// unread. Takes no memory, and copies only bytes that lie together.
+    /// unread. Takes no memory, and copies only bytes that lie together. Memory that isn't needed
+    /// goes back to `blocks`.
     #[inline(always)]
     pub(crate) fn take(
         &mut self,
         alloc: Global,
         region: Region,
         known: Option<Bytes>,
+        blocks: &Blocks,
     ) -> (Bytes, Vec<u8>)
         requires inside { Inside (length self.old) region }
         requires known { ForSome known (λ bytes. bytes ≡ read_of self.old region) }
@@ -373,12 +322,15 @@ impl Buffer {
             Memory::InSegments(segmented) => {
                 let Segmented { long, own, spare } = Box::into_inner(segmented);
                 let Long {
-                    segments,
+                    mut segments,
                     shell,
                     ..
                 } = long;
-                match known {
-                    Some(bytes) => (bytes, spare),
+                match known_or_whole(known, &mut segments, alloc, region) {
+                    Some(bytes) => {
+                        blocks.keep(own);
+                        (bytes, spare)
+                    }
                     None => (segments.into_part(region, own, shell), spare),
                 }
             }

@@ -50,7 +50,7 @@ pub struct Core {
     matches: Matches,
     /// Long results that other members of the instance may share. No contract sees them.
     results: Option<Box<InstanceResults>>,
-    /// Memory for the results of long combinations.
+    /// Memory for the results of long combinations, and for long buffers.
     blocks: Blocks,
 }
 

@@ -10,7 +10,7 @@
 //! | `phase` | `Phase`: how far a request is |
 //! | `about` | `About`: what a ticket's request is |
 //! | `outcome` | `Outcome`: what a completion hands out |
-//! | `buffer` | `Buffer`: the bytes that a schedule's actions read and write |
+//! | `buffer` | `Buffer`: the bytes that a schedule's actions read and write; `Laid`: the same before a lock is taken |
 //! | `row` | `Row`: a short buffer's bytes, in place |
 //! | `long` | `Long`: a long buffer's bytes, and the combination whose result is awaited |
 //! | `request` | `Request`: what the engine keeps of a live request |
@@ -59,7 +59,7 @@ mod word;
 mod work;
 
 pub use about::About;
-pub use buffer::Buffer;
+pub use buffer::{Buffer, Laid};
 pub use communicators::{Communicators, Seat, copied_groups};
 pub use config::Config;
 pub use contribution::Contribution;

@@ -2,7 +2,7 @@ ghost use Rattle.std.specs.Prelude.{◌≡◌, IfErr, IfOk};
 ghost use Rattle.coll_core.specs.Posts.{IsLaid};
 ghost use Rattle.coll_core.specs.Numbers.{number_bytes};
 
-use crate::buffer::Buffer;
+use crate::buffer::Laid;
 use crate::contribution::Contribution;
 use coll_kinds::Refusal;
 use coll_plans::Plan;
@@ -45,15 +45,15 @@ impl Offer {
     /// # Errors
     ///
     /// NoMemory.
-    pub fn lay_in(&mut self, alloc: Global) -> Result<Buffer, Refusal>
-        ensures laid { IfOk result (λ buffer. IsLaid self.old buffer) }
+    pub fn lay_in(&mut self, alloc: Global) -> Result<Laid, Refusal>
+        ensures laid { IfOk result (λ laid. IsLaid self.old laid) }
         ensures refused { IfErr result (λ why. why ≡ Refusal.NoMemory) }
         ensures same { self.new ≡ self.old }
     {
         let schedule = self.plan.schedule();
         if self.bytes.len() != schedule.input().len as usize {
-            return Ok(Buffer::empty(alloc));
+            return Ok(Laid::empty(alloc));
         }
-        Buffer::lay_in(alloc, schedule, &mut self.bytes)
+        Laid::lay_in(alloc, schedule, &mut self.bytes)
     }
 }

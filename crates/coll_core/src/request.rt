@@ -354,7 +354,12 @@ impl Request {
     /// first round. The buffer is empty after that. If another owner of the same bytes is known, it
     /// is handed out.
     #[inline(always)]
-    pub(crate) fn take_outcome(&mut self, alloc: Global, known: Option<Bytes>) -> (Bytes, Vec<u8>)
+    pub(crate) fn take_outcome(
+        &mut self,
+        alloc: Global,
+        known: Option<Bytes>,
+        blocks: &Blocks,
+    ) -> (Bytes, Vec<u8>)
         requires inside { Inside (length self.old.buffer) (schedule (shown self.old)).output }
         requires known { ForSome known (λ bytes. bytes ≡ read_of self.old.buffer (schedule (shown self.old)).output) }
         ensures bytes { result.0 ≡ read_of self.old.buffer (schedule (shown self.old)).output }
@@ -364,7 +369,7 @@ impl Request {
         let output = self.plan.schedule().output();
         self.round = 0;
         self.index = 0;
-        self.buffer.take(alloc, output, known)
+        self.buffer.take(alloc, output, known, blocks)
     }
 }
 

@@ -2,7 +2,7 @@ ghost use Rattle.std.specs.Prelude.{◌≡◌, ◌<◌, ◌^◌, length, IfErr, 
 ghost use Rattle.coll_traced.specs.Prepared.{IsPreparedFor};
 
 use coll_bytes::Bytes;
-use coll_core::{Buffer, Contribution, Offer};
+use coll_core::{Contribution, Laid, Offer};
 use coll_kinds::Refusal;
 use std::alloc::Global;
 
@@ -11,7 +11,7 @@ use std::alloc::Global;
 #[derive(Drop)]
 pub struct Prepared {
     pub(crate) bytes: Bytes,
-    pub(crate) laid: Buffer,
+    pub(crate) laid: Laid,
 }
 
 /// Returns a second owner of the contribution, for the trace. A contribution longer than any

@@ -21,7 +21,7 @@ ghost use Rattle.coll_core.specs.Cores.{seen, setting, Unchanged};
 ghost use Rattle.coll_core.specs.Progress.{BeginsSchedule, KeepsProgress};
 ghost use Rattle.coll_core.specs.Posts.{init_of, next_instance, planned, post_of, refused_in, IsLaid, IsRoomy};
 
-use crate::buffer::Buffer;
+use crate::buffer::{Buffer, Laid};
 use crate::engine::Core;
 use crate::offer::Offer;
 use crate::request::Request;
@@ -119,7 +119,7 @@ impl Core {
         rank: u8,
         comm: u32,
         offer: Offer,
-        laid: Result<Buffer, Refusal>,
+        laid: Result<Laid, Refusal>,
     ) -> Result<Ticket, Refused<Offer>>
         requires laid { IfOk laid (λ buffer. IsLaid offer buffer) }
         requires short { IfErr laid (λ why. why ≡ Refusal.NoMemory) }
@@ -143,7 +143,7 @@ impl Core {
         rank: u8,
         comm: u32,
         offer: Offer,
-        laid: Result<Buffer, Refusal>,
+        laid: Result<Laid, Refusal>,
     ) -> Result<Ticket, Refused<Offer>>
         requires accepted { refused_in self.old (post_of rank comm offer) ≡ None }
         requires laid { IfOk laid (λ buffer. IsLaid offer buffer) }
@@ -258,7 +258,7 @@ impl Core {
         rank: u8,
         comm: u32,
         offer: &Offer,
-        laid: Result<Buffer, Refusal>,
+        laid: Result<Laid, Refusal>,
     ) -> Result<(Arc<Signature>, Buffer), Refusal>
         requires accepted { refused_in self.old (post_of rank comm offer.now) ≡ None }
         requires laid { IfOk laid (λ buffer. IsLaid offer.now buffer) }
@@ -271,7 +271,8 @@ impl Core {
     {
         is_sound(&self.arena);
         is_planned(&offer.plan);
-        let buffer = laid?;
+        let bare = laid?;
+        let buffer = bare.furnished(self.alloc, &self.blocks)?;
         self.make_place(rank, comm)?;
         let key = Key {
             comm,

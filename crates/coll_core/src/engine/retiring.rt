@@ -23,7 +23,7 @@ use crate::request::Request;
 use crate::shared_result::forget;
 use coll_arena::laws::is_sound;
 use coll_arena::{Arena, ListName, Ticket};
-use coll_bytes::Bytes;
+use coll_bytes::{Blocks, Bytes};
 use coll_kinds::{Kind, Mode, Refusal};
 use coll_match::Matches;
 use std::alloc::Global;
@@ -49,8 +49,8 @@ impl Core {
         ensures rank { IfOk result (λ found. IfSome found (λ o. o.rank ≡ rank)) }
         ensures progress { IfOk result (λ found. IfSome found (λ o. KeepsProgress self.old self.new ticket.slot)) }
     {
-        match self.complete(rank, ticket) {
-            Ok(Some((outcome, _room))) => Ok(Some(outcome)),
+        match self.retire_shared(rank, ticket) {
+            Ok(Some((outcome, _other))) => Ok(Some(outcome)),
             Ok(None) => Ok(None),
             Err(why) => Err(why),
         }
@@ -79,31 +79,6 @@ impl Core {
         ensures same { IfOk result (λ found. IfSome found (λ r. r.1 ≡ r.0.bytes)) }
         ensures progress { IfOk result (λ found. IfSome found (λ r. KeepsProgress self.old self.new ticket.slot)) }
     {
-        match self.complete(rank, ticket) {
-            Ok(Some((outcome, room))) => {
-                let other = outcome.bytes.share_in(room);
-                Ok(Some((outcome, other)))
-            }
-            Ok(None) => Ok(None),
-            Err(why) => Err(why),
-        }
-    }
-
-    /// `retire` that also returns memory for a copy of the outcome.
-    #[inline(always)]
-    fn complete(&mut self, rank: u8, ticket: Ticket) -> Result<Option<(Outcome, Vec<u8>)>, Refusal>
-        ensures refused { result_err result ≡ refusal (setting self.old) (seen self.old).state (Retire rank ticket) }
-        ensures err { OnErr result (self.new ≡ self.old) }
-        ensures none { IfOk result (λ found. IsNone found → self.new ≡ self.old) }
-        ensures setting { setting self.new ≡ setting self.old }
-        ensures waits { IfOk result (λ found. IsNone found → MachineStep (setting self.old) (seen self.old) (Retire rank ticket) Nothing (seen self.new)) }
-        ensures completes { IfOk result
-            (λ found. IfSome found (λ r. MachineStep (setting self.old) (seen self.old) (Retire rank ticket)
-            (Completed r.0.rank r.0.comm r.0.place r.0.start r.0.bytes) (seen self.new))) }
-        ensures rank { IfOk result (λ found. IfSome found (λ r. r.0.rank ≡ rank)) }
-        ensures room { IfOk result (λ found. IfSome found (λ r. HasRoom r.1 (length r.0.bytes))) }
-        ensures progress { IfOk result (λ found. IfSome found (λ r. KeepsProgress self.old self.new ticket.slot)) }
-    {
         is_sound(&self.arena);
         let request = self.named(rank, ticket)?;
         if !self.arena.is_on(ticket, ListName::Done(request.comm)) {
@@ -114,7 +89,9 @@ impl Core {
         let member = request.plan.member();
         let kind = request.plan.sig().kind;
         let known = known_outcome(&self.matches, request);
-        let (bytes, room) = give_up(&mut self.arena, self.alloc, ticket, known);
+        let blocks = &self.blocks;
+        let (bytes, room) = give_up(&mut self.arena, self.alloc, ticket, known, blocks);
+        let other = second_owner(&bytes, room, blocks);
         let joined = joined_by(kind, &bytes);
         let is_over = self.matches.leave(key, hint, member, joined);
         forget(&mut self.results, key, is_over);
@@ -125,7 +102,7 @@ impl Core {
             start: key.start,
             bytes,
         };
-        Ok(Some((outcome, room)))
+        Ok(Some((outcome, other)))
     }
 }
 
@@ -184,6 +161,21 @@ fn root_row(matches: &Matches, request: &Request) -> Option<Bytes>
     matches.share_given(request.key(), request.hint, sig.root)
 }
 
+/// Returns a second owner of an outcome's bytes. Takes no memory: `room` is for a copy, and is kept
+/// if no copy is made.
+fn second_owner(bytes: &Bytes, room: Vec<u8>, blocks: &Blocks) -> Bytes
+    requires { HasRoom room (length bytes.now) }
+    ensures { result ≡ bytes.now }
+{
+    match bytes.share_counted() {
+        Some(other) => {
+            blocks.keep(room);
+            other
+        }
+        None => bytes.share_in(room),
+    }
+}
+
 /// Takes the outcome of a request, with memory for a copy of it. `known` is another owner of the
 /// same bytes, if there is one. A once request goes, a persistent one becomes Idle.
 fn give_up(
@@ -191,6 +183,7 @@ fn give_up(
     alloc: Global,
     ticket: Ticket,
     known: Option<Bytes>,
+    blocks: &Blocks,
 ) -> (Bytes, Vec<u8>)
     requires named { names arena.old ticket ≡ true }
     requires can { IfSome (record_in arena.old ticket.slot) (GivesUp arena.old) }
@@ -204,8 +197,8 @@ fn give_up(
         unreachable!()
     };
     match request.plan.sig().mode {
-        Mode::Once => end(arena, alloc, ticket, known),
-        Mode::Persistent => rest(arena, alloc, ticket, known),
+        Mode::Once => end(arena, alloc, ticket, known, blocks),
+        Mode::Persistent => rest(arena, alloc, ticket, known, blocks),
     }
 }
 
@@ -215,6 +208,7 @@ fn end(
     alloc: Global,
     ticket: Ticket,
     known: Option<Bytes>,
+    blocks: &Blocks,
 ) -> (Bytes, Vec<u8>)
     requires named { names arena.old ticket ≡ true }
     requires can { IfSome (record_in arena.old ticket.slot) (GivesUp arena.old) }
@@ -225,7 +219,7 @@ fn end(
     ensures lists { arena.new.lists ≡ moved_back ticket.slot (home arena.new ticket.slot) arena.old.lists }
 {
     match arena.retire(ticket) {
-        Ok(mut request) => request.take_outcome(alloc, known),
+        Ok(mut request) => request.take_outcome(alloc, known, blocks),
         Err(_) => unreachable!(),
     }
 }
@@ -236,6 +230,7 @@ fn rest(
     alloc: Global,
     ticket: Ticket,
     known: Option<Bytes>,
+    blocks: &Blocks,
 ) -> (Bytes, Vec<u8>)
     requires named { names arena.old ticket ≡ true }
     requires can { IfSome (record_in arena.old ticket.slot) (GivesUp arena.old) }
@@ -249,7 +244,7 @@ fn rest(
     let Ok(request) = arena.get_mut(ticket) else {
         unreachable!()
     };
-    let bytes = request.take_outcome(alloc, known);
+    let bytes = request.take_outcome(alloc, known, blocks);
     let comm = request.comm;
     let Ok(()) = arena.reweigh(ticket, 0) else {
         unreachable!()

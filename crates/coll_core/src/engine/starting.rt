@@ -16,7 +16,7 @@ ghost use Rattle.coll_core.specs.Progress.{BeginsSchedule, KeepsProgress};
 ghost use Rattle.coll_core.specs.Requests.{schedule, shown};
 ghost use Rattle.coll_core.specs.Starts.{Begins, Begun, CanBegin, next_instance};
 
-use crate::buffer::Buffer;
+use crate::buffer::{Buffer, Laid};
 use crate::contribution::Contribution;
 use crate::engine::Core;
 use crate::request::Request;
@@ -145,7 +145,8 @@ impl Core {
         let Ok(request) = self.arena.get(ticket) else {
             unreachable!()
         };
-        let buffer = Buffer::lay_in(self.alloc, request.plan.schedule(), bytes)?;
+        let laid = Laid::lay_in(self.alloc, request.plan.schedule(), bytes)?;
+        let buffer = laid.furnished(self.alloc, &self.blocks)?;
         let key = Key {
             comm: request.comm,
             place: request.place,

@@ -35,7 +35,8 @@ returns-clause-buffer c =
     accepted_from p c.args.self.now (Post c.args.rank c.args.comm plan bytes) c.self.view_is c.requires.accepted in
     let tested : MayEnter (setting p) p.arena p.queues c.args.rank c.args.comm Once plan × (length bytes ≡ given_len plan.sig plan.n plan.member) =
     (entry_core shown (setting p) p.arena p.queues p.matches c.args.rank c.args.comm plan c.self.invariant c.is_sound.ensures).0 bytes accepted in
-    laid_for c.args.laid c.args.offer.now c.in_ok-buffer.buffer c.requires.laid c.in_ok-buffer.was
+    c.in_ok-buffer.ensures.ok
+    ∙ laid_for c.args.laid c.args.offer.now c.in_ok-bare.bare c.requires.laid c.in_ok-bare.was
     (tested.1 ∙ sym (c.is_planned.ensures.serves.takes_given plan.member tested.0.low))
 
 pub make_instance-requires : goal.make_instance-requires

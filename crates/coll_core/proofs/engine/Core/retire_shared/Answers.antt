@@ -4,7 +4,7 @@ use Rattle.coll_core.proofs.between.LiveRequests.{list_in}
 use Rattle.coll_core.proofs.retire.RootRow.{known_outcome, leaves_joined}
 use Rattle.coll_core.proofs.retire.Retire.{completes, gives_up, kept, on_done, owned, retires_alone, seated, waits}
 use Rattle.coll_match.specs.Instances.{LookUps}
-use Rattle.coll_core.proofs.engine.Core.complete.Goals as goal
+use Rattle.coll_core.proofs.engine.Core.retire_shared.Goals as goal
 
 pub is_on-requires : goal.is_on-requires
 is_on-requires c =
