@@ -1,6 +1,7 @@
-/* Overlap by the definition of the Intel MPI Benchmarks (IMB-NBC): a rank posts, computes so many per cent of the time that the collective
- * takes alone, and waits. It prints the collective and the per cent, and then nanoseconds, medians of the slowest rank: `pure`, the collective alone; `alone`, the computation alone; then of both together
- * `post`, `computing`, `wait` and `total`. A rank writes its row before it posts, as a program computes what it gives; that isn't timed. */
+/* Overlap by the definition of the Intel MPI Benchmarks (IMB-NBC): a rank posts, computes so many per cent of the time that the
+ * collective takes alone, and waits. It prints the collective and the per cent, and then nanoseconds, medians of the slowest rank:
+ * `pure`, the collective alone; `alone`, the computation alone; then of both together `post`, `computing`, `wait` and `total`. A rank
+ * writes its row before it posts, as a program computes what it gives; that isn't timed. */
 #include "overlap.h"
 
 #include <stdio.h>
@@ -66,6 +67,8 @@ static void compute(struct rank *rank, struct samples *samples, struct computing
 
 static void sample(struct rank *rank, struct samples *samples, int turn, const struct collective *collective, struct computing computing) {
     if (collective != NULL) memset(rank->given, rank->number + turn, collective->kind == ALLTOALL ? rank->ranks * collective->bytes : collective->bytes);
+    /* All ranks begin together, because a rank that comes late would be counted as the collective's time. */
+    (void)greatest(rank, 0);
     int64_t begun = now();
     if (collective != NULL) post_collective(rank, *collective);
     int64_t posted = now();

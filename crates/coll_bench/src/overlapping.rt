@@ -4,7 +4,7 @@ use crate::collective::Collective;
 use crate::computing::{Computing, Measured, OwnWords};
 use coll_complete::Request;
 use coll_core::{Contribution, Offer};
-use coll_kinds::Refusal;
+use coll_kinds::{Kind, Refusal};
 use coll_shared::{NoGate, Port, RankProgram};
 use coll_traced::Entries;
 use std::alloc::{AllocError, Global};
@@ -118,6 +118,7 @@ fn between(from: Instant, to: Instant) -> u64 {
 }
 
 /// Takes one sample. The rank writes its row before, as a program computes what it gives; that isn't timed.
+/// All ranks begin together, because a rank that comes late would be counted as the collective's time.
 fn sample<L: Entries, R: Wait + Clock, C: Clock>(
     rt: &R,
     clock: &C,
@@ -130,6 +131,7 @@ fn sample<L: Entries, R: Wait + Clock, C: Clock>(
     let len = task.collective.given_len(port.rank(), task.ranks);
     let byte = port.rank().wrapping_add((turn % 256) as u8);
     let row = Contribution::new(vec![in alloc; byte; len]?);
+    synchronise(rt, alloc, port)?;
     let begun = now(clock)?;
     let mut request = if task.posts {
         post(rt, port, task.collective, row)?
@@ -147,6 +149,21 @@ fn sample<L: Entries, R: Wait + Clock, C: Clock>(
         wait: between(computed, ended),
         total: between(begun, ended),
     })
+}
+
+/// Waits until each rank has come here.
+fn synchronise<L: Entries, R: Wait + Clock>(
+    rt: &R,
+    alloc: Global,
+    port: &mut Port<L>,
+) -> Result<(), Refusal> {
+    let barrier = Collective {
+        kind: Kind::Barrier,
+        bytes: 0,
+    };
+    let mut request = post(rt, port, barrier, Contribution::new(Vec::new(alloc)))?;
+    let (_outcome, _receipts) = port.wait(rt, &NoGate, &mut request)?;
+    Ok(())
 }
 
 /// Plans the collective and posts it on communicator 0.
