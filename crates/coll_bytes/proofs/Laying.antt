@@ -1,5 +1,5 @@
 -- segments laid one over the other
-use Rattle.std.proofs.Common.{◌≡◌, ℕ, ◌+◌, ◌<◌, ◌⊎◌, inl, inr, refl, List, [], ◌∷◌, ◌++◌, ◌-◌, fold, take, drop, length, get_or, replicate, remove}
+use Rattle.std.proofs.Common.{◌≡◌, ℕ, ◌+◌, ◌<◌, ◌⊎◌, inl, inr, refl, List, [], ◌∷◌, ◌++◌, fold, take, drop, length, get_or, replicate, remove}
 use Rattle.std.proofs.Common.{zero, suc, sym, ap, subst, ◌∙◌, arith}
 use Rattle.std.proofs.lemmas.List.{length-replicate, same_lists, take_more, get_or_default}
 use Rattle.std.proofs.lemmas.List.Elements.{All-append, All-drop, All-take}

@@ -1,42 +1,27 @@
-//! Blocks that come back once their last owner is dropped.
+//! Vectors that are used again, and blocks whose vectors come back.
 
-ghost use Rattle.std.specs.Prelude.{◌≡◌, ◌<◌, ◌≤◌, [], length, IfOk, IfSome, vec_capacity, vec_len};
+ghost use Rattle.std.specs.Prelude.{◌≡◌, ◌≤◌, [], IfOk, IfSome, vec_capacity, vec_len};
 
+use crate::shelf::Shelf;
 use std::alloc::{AllocError, Global};
 use std::fmt;
 use std::fmt::Write;
-use std::sync::{Arc, Mutex};
+use std::sync::Arc;
 
-/// The most vectors that are kept, as many as an allreduce among 64 ranks has results.
-const KEPT: usize = 64;
-
-/// Vectors that are used again for rows of the same length, by several threads. New memory takes
-/// longer than a combination into it, because its pages are made at their first use, and because
-/// the allocator gives long vectors back to the system. No call blocks: if another thread is here,
-/// a vector is made or freed. No contract sees which vectors are kept.
-#[derive(Drop)]
+/// Vectors that an engine uses again for rows of the same length, from 4 KiB to 128 MiB. New memory
+/// takes longer than a combination into it, because its pages are made at their first use, and
+/// because the allocator gives long vectors back to the system. At most 64 vectors and 128 MiB are
+/// kept; all are freed when the engine is dropped. No call blocks or fails for it: if other threads
+/// are here, a vector is made or freed. No contract sees which vectors are kept.
+#[derive(Debug)]
 pub struct Blocks {
-    kept: Arc<Mutex<Vec<Vec<u8>>>>,
+    home: Home,
 }
 
-// Returns the index of the last vector of that length.
-fn place_of(kept: &[Vec<u8>], len: usize) -> Option<usize>
-    ensures { IfSome result (λ at. at < length kept.now) }
-{
-    let mut at = kept.len();
-    while at > 0 {
-        at -= 1;
-        if kept[at].capacity() == len {
-            return Some(at);
-        }
-    }
-    None
-}
-
-impl fmt::Debug for Blocks {
-    fn fmt<W: Write>(&self, f: &mut fmt::Formatter<W>) -> fmt::Result {
-        f.write_str("Blocks")
-    }
+/// Where vectors come from and go back to. It may outlive its engine, and then keeps none.
+#[derive(Drop)]
+pub struct Home {
+    shelf: Arc<Shelf>,
 }
 
 impl Blocks {
@@ -46,15 +31,15 @@ impl Blocks {
     ///
     /// No memory.
     pub fn new(alloc: Global) -> Result<Blocks, AllocError> {
-        let place = Vec::with_capacity(alloc, KEPT)?;
-        let kept = Arc::new(alloc, Mutex::new(place))?;
-        Ok(Blocks { kept })
+        let shelf = Arc::new(alloc, Shelf::new(alloc)?)?;
+        Ok(Blocks {
+            home: Home { shelf },
+        })
     }
 
-    /// Returns a second owner. Takes no memory.
-    pub fn share(&self) -> Option<Blocks> {
-        let kept = Arc::try_clone(&self.kept).ok()?;
-        Some(Blocks { kept })
+    /// Returns an owner of the home. Takes no memory.
+    pub fn share(&self) -> Option<Home> {
+        self.home.share()
     }
 
     /// Returns an empty vector for a row: one as long that was kept, else a new one.
@@ -67,10 +52,49 @@ impl Blocks {
         ensures none { IfOk result (λ room. vec_len room ≡ 0) }
         ensures room { IfOk result (λ room. len ≤ vec_capacity room) }
     {
-        if let Some(room) = self.take_kept(len) {
-            return Ok(room);
+        self.home.take(alloc, len)
+    }
+
+    /// Keeps a vector for a later row, or frees it. Takes no memory.
+    pub fn keep(&self, room: Vec<u8>) {
+        self.home.keep(room);
+    }
+}
+
+impl Drop for Blocks {
+    fn drop(self) {
+        let Blocks { home } = self;
+        home.shelf.close();
+    }
+}
+
+impl fmt::Debug for Home {
+    fn fmt<W: Write>(&self, f: &mut fmt::Formatter<W>) -> fmt::Result {
+        f.write_str("Home")
+    }
+}
+
+impl Home {
+    /// Returns a further owner. Takes no memory.
+    pub fn share(&self) -> Option<Home> {
+        let shelf = Arc::try_clone(&self.shelf).ok()?;
+        Some(Home { shelf })
+    }
+
+    /// Returns an empty vector for a row, as `Blocks::take` does.
+    ///
+    /// # Errors
+    ///
+    /// No memory.
+    pub fn take(&self, alloc: Global, len: usize) -> Result<Vec<u8>, AllocError>
+        ensures empty { IfOk result (λ room. room.items ≡ []) }
+        ensures none { IfOk result (λ room. vec_len room ≡ 0) }
+        ensures room { IfOk result (λ room. len ≤ vec_capacity room) }
+    {
+        match self.take_kept(len) {
+            Some(room) => Ok(room),
+            None => Vec::with_capacity(alloc, len),
         }
-        Vec::with_capacity(alloc, len)
     }
 
     // Returns the vector of that length that was kept last.
@@ -79,7 +103,7 @@ impl Blocks {
         ensures none { IfSome result (λ room. vec_len room ≡ 0) }
         ensures room { IfSome result (λ room. len ≤ vec_capacity room) }
     {
-        let mut room = self.last_of(len)?;
+        let mut room = self.shelf.take(len)?;
         if room.capacity() != len {
             return None;
         }
@@ -87,23 +111,8 @@ impl Blocks {
         Some(room)
     }
 
-    // Takes the vector of that length out that was kept last.
-    fn last_of(&self, len: usize) -> Option<Vec<u8>> {
-        let mut kept = self.kept.try_lock()?;
-        let at = place_of(&kept, len)?;
-        Some(kept.remove(at))
-    }
-
-    /// Keeps a vector for a later row in place of the one that was kept first, or frees it. Takes no
-    /// memory.
-    pub fn keep(&self, room: Vec<u8>) {
-        let Some(mut kept) = self.kept.try_lock() else {
-            return;
-        };
-        if kept.len() >= KEPT {
-            let _first = kept.remove(0);
-        }
-        let _ = kept.push(room);
+    fn keep(&self, room: Vec<u8>) {
+        self.shelf.put(room);
     }
 }
 
@@ -111,12 +120,12 @@ impl Blocks {
 /// again.
 pub(crate) struct Block {
     pub(crate) bytes: Vec<u8>,
-    home: Option<Blocks>,
+    home: Option<Home>,
 }
 
 impl Block {
     /// A block that is freed in the end, unless it has a home.
-    pub(crate) fn new(bytes: Vec<u8>, home: Option<Blocks>) -> Block
+    pub(crate) fn new(bytes: Vec<u8>, home: Option<Home>) -> Block
         ensures { result.bytes ≡ bytes }
     {
         Block { bytes, home }

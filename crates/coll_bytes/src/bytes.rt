@@ -2,7 +2,7 @@ ghost use Rattle.std.specs.Prelude.{◌≡◌, ◌+◌, ◌<◌, ◌≤◌, ◌^
 ghost use Rattle.std.specs.Arc.{arc_value};
 ghost use Rattle.coll_sched.specs.Regions.{Inside, read_of};
 
-use crate::blocks::{Block, Blocks};
+use crate::blocks::{Block, Home};
 use coll_sched::Region;
 use std::alloc::{AllocError, Global};
 use std::marker::Model;
@@ -194,7 +194,7 @@ impl Bytes {
     pub fn from_block(
         alloc: Global,
         bytes: Vec<u8>,
-        home: Option<Blocks>,
+        home: Option<Home>,
     ) -> Result<Bytes, AllocError>
         requires { length bytes.items < 2 ^ 32 }
         ensures { IfOk result (λ made. made ≡ bytes.items) }

@@ -5,6 +5,7 @@
 //! |---|---|
 //! | `bytes` | `Bytes`: up to `FEW` bytes in place, or a part of a block on the heap |
 //! | `blocks` | `Blocks`: vectors that are used again; `Block`, of several owners |
+//! | `shelf` | `Shelf`: the vectors that nobody uses now |
 //! | `shell` | `Shell`: the count of owners of a block whose bytes are put together later |
 //! | `segments` | `Segments`: a schedule's buffer |
 //! | `segment` | one write into a buffer, and how a region lies beside it |
@@ -16,9 +17,10 @@ mod bytes;
 mod composed;
 mod segment;
 mod segments;
+mod shelf;
 mod shell;
 
-pub use blocks::Blocks;
+pub use blocks::{Blocks, Home};
 pub use bytes::{Bytes, FEW, copy_few};
 pub use segments::{Segments, WRITES_IN_PLACE};
 pub use shell::Shell;

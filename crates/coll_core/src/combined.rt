@@ -4,7 +4,7 @@ ghost use Rattle.coll_kinds.specs.Elements.{width};
 ghost use Rattle.coll_ops.specs.Combinations.{combined as combination};
 
 use crate::buffer::SHORT;
-use coll_bytes::{Blocks, Bytes, FEW};
+use coll_bytes::{Bytes, FEW, Home};
 use coll_kinds::{Datatype, Op, Refusal};
 use coll_ops::combine_into;
 use std::alloc::{AllocError, Global};
@@ -86,7 +86,7 @@ pub(crate) fn combined(
     ty: Datatype,
     left: &Bytes,
     right: &Bytes,
-    blocks: Option<&Blocks>,
+    blocks: Option<&Home>,
 ) -> Result<Bytes, Refusal>
     requires allowed { IsTrue (allowed op ty) }
     requires whole { length left.now % width ty ≡ 0 }

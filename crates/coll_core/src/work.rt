@@ -5,7 +5,7 @@ use crate::combined::combined;
 use crate::result_cell::ResultCell;
 use crate::shared_result::SharedResult;
 use boxcar::tag::{Names, Tag};
-use coll_bytes::{Blocks, Bytes};
+use coll_bytes::{Bytes, Home};
 use coll_kinds::{Datatype, Op, Refusal, Refused, Ticket};
 use std::alloc::Global;
 use std::marker::Model;
@@ -27,7 +27,7 @@ pub struct Work {
     /// The cell in which the engine finds the result.
     cell: Option<ResultCell>,
     /// Where the memory for a long result comes from.
-    blocks: Option<Blocks>,
+    blocks: Option<Home>,
 }
 
 impl Model for Work {
@@ -80,7 +80,7 @@ impl Work {
         left: Bytes,
         right: Bytes,
         shared: Option<SharedResult>,
-        blocks: Option<Blocks>,
+        blocks: Option<Home>,
     ) -> Work
         requires { IsPiece (record { ticket = ticket; round = round; index = index; op = op; ty = ty; left = left; right = right }) }
         ensures { result ≡ record { ticket = ticket; round = round; index = index; op = op; ty = ty; left = left; right = right } }
