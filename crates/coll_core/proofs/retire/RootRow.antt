@@ -1,5 +1,5 @@
 -- A bcast that is Done has what its root gave, an allgather what all gave, joined
-use Rattle.std.proofs.Common.{◌≡◌, ◌≢◌, ◌∙◌, ◌+◌, ◌*◌, ◌<◌, ◌⊎◌, inl, inr, zero, suc, true, ltb, ap, refl, sym, subst, arith}
+use Rattle.std.proofs.Common.{◌≡◌, ◌≢◌, ◌∙◌, ◌+◌, ◌*◌, ◌<◌, inl, inr, zero, suc, true, ltb, ap, refl, sym, subst, arith}
 use Rattle.std.specs.List.{range_with_len}
 use Rattle.std.specs.Option.{ForSome}
 use Rattle.std.specs.Prelude.{ℕ, List, [], ◌∷◌, length, map, replicate, slice_get, unwrap_or, Option, Some, None, IfSome}
@@ -22,7 +22,7 @@ use Rattle.coll_machine.specs.Common.{filled, size}
 use Rattle.coll_match.specs.Held.{HasJoined, Held, Part, contribution_of, joined_rows}
 use Rattle.coll_match.specs.Instances.{IsJoined, given, given_of, members_of, standing}
 use Rattle.coll_refinement.specs.FreeLocks.{Holding}
-use Rattle.coll_refinement.specs.Requests.{Live, key}
+use Rattle.coll_refinement.specs.Requests.{key}
 use Rattle.coll_refinement.specs.Shown.{listed}
 use Rattle.coll_refinement.proofs.tables.LiveRequests.{holding_value}
 use Rattle.coll_core.specs.declared.request.Request.{Request}
