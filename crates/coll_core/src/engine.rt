@@ -81,6 +81,8 @@ impl Core {
         let comms = config.groups.len() as u32;
         let arena = Arena::open(alloc, config.slots, comms, config.wear)?;
         let queues = Queues::open(alloc, config.groups, config.places)?;
+        let blocks = Blocks::new(alloc)?;
+        let matches = Matches::new(alloc);
         Ok(Core {
             alloc,
             ranks: config.ranks,
@@ -88,9 +90,9 @@ impl Core {
             trace: config.trace,
             arena,
             queues,
-            matches: Matches::new(alloc),
+            matches,
             results: None,
-            blocks: Blocks::new(alloc)?,
+            blocks,
         })
     }
 
