@@ -21,6 +21,10 @@ HERE = checking.HERE / "fortran"
 RIGHT = ["old.f", "modern.f90", "newest.f90"]
 MODES = ([], ["--strict", "--check"], ["--seed", "7"])
 OPTIONS = {"changed": "-n 3 --check"}
+ASKED = r"""wzrun: SIGQUIT: here the ranks stand:
+  rank 0 computes, or waits outside of MPI, for \d+ s since its call at \S*signals\.f90:14
+  rank 1 waits in MPI_Barrier at \S*signals\.f90:24
+"""
 
 
 def compiled(binaries, source, out):
@@ -69,15 +73,29 @@ def check_wrong(binaries, out, write):
     return failed
 
 
+def check_asked(binaries, program, out):
+    """SIGQUIT asks where the ranks stand, and the run goes on. Rank 0 reads its line once the answer has shown rank 1 at the barrier."""
+    said = out / "signals.said"
+    words = [str(binaries / "wzrun"), "-n", "2", str(program), "asked"]
+    with said.open("w") as to:
+        running = subprocess.Popen(words, stdin=subprocess.PIPE, stdout=to, stderr=to, preexec_fn=checking.with_signals)  # pylint: disable=subprocess-popen-preexec-fn
+    has_begun = checking.comes_true(lambda: "reads\n" in said.read_text(), running)
+    is_told = has_begun and checking.answered(running, lambda: re.search(ASKED, said.read_text()))
+    try:
+        running.communicate(b"a line\n", timeout=checking.LONGEST)
+    except subprocess.TimeoutExpired:
+        running.kill()
+        running.wait()
+    is_so = is_told and running.returncode == 0 and "and goes on\n" in said.read_text()
+    return checking.reported(is_so, f"signals.f90 asked: status {running.returncode}: {said.read_text()}")
+
+
 def check_signals(binaries, out):
-    """SIGQUIT asks where the ranks stand, and a crash is told beside libgfortran's backtrace."""
+    """SIGQUIT is answered, and a crash is told beside libgfortran's backtrace."""
     program = compiled(binaries, HERE / "signals.f90", out)
-    status, said = run(binaries, ["-n", "2"], program, "asked")
-    is_so = status == 0 and "wzrun: SIGQUIT: here the ranks stand:" in said and "rank 1 waits in MPI_Barrier" in said and "and goes on" in said
-    failed = checking.reported(is_so, f"signals.f90 asked: status {status}: {said}")
     status, said = run(binaries, ["-n", "2"], program, "crash")
-    is_so = status == 139 and "wzrun: rank 1 crashes: segmentation fault" in said and "Backtrace for this error" in said and "signals.f90:18" in said
-    return failed + checking.reported(is_so, f"signals.f90 crash: status {status}: {said}")
+    is_so = status == 139 and "wzrun: rank 1 crashes: segmentation fault" in said and "Backtrace for this error" in said and "signals.f90:22" in said
+    return check_asked(binaries, program, out) + checking.reported(is_so, f"signals.f90 crash: status {status}: {said}")
 
 
 def main():

@@ -2,11 +2,14 @@
 
 import os
 import pathlib
+import signal
 import subprocess
 import sys
+import time
 
 HERE = pathlib.Path(__file__).resolve().parent
 LONGEST = 900  # seconds: no run takes more than some on an idle machine
+PAUSE = 0.2  # seconds, from one look to the next
 
 
 def compiled(binaries, source, program, *words):
@@ -33,3 +36,29 @@ def reported(is_so, what):
     if not is_so:
         print(f"check.py: {what}")
     return 0 if is_so else 1
+
+
+def with_signals():
+    """A shell gives programs in its background SIGINT and SIGQUIT as ignored."""
+    signal.signal(signal.SIGINT, signal.SIG_DFL)
+    signal.signal(signal.SIGQUIT, signal.SIG_DFL)
+
+
+def comes_true(is_so, running):
+    """Whether it is so while the process runs, or as it has ended. It is looked for until then, since a busy machine takes its time."""
+    ends = time.monotonic() + LONGEST
+    while running.poll() is None and time.monotonic() < ends:
+        if is_so():
+            return True
+        time.sleep(PAUSE)
+    return is_so()
+
+
+def answered(running, is_so):
+    """Whether the answers to SIGQUIT come to be so: the run is asked again until they are."""
+
+    def asked():
+        running.send_signal(signal.SIGQUIT)
+        return is_so()
+
+    return comes_true(asked, running)

@@ -11,8 +11,12 @@ program signals
     call MPI_Comm_rank(MPI_COMM_WORLD, rank, ierror)
     select case (name)
     case ('asked')
-        if (rank == 0) call kill(getpid(), 3)
-        if (rank == 0) call sleep(1)
+        call MPI_Barrier(MPI_COMM_WORLD, ierror)
+        if (rank == 0) then
+            print '(a)', 'reads'
+            flush (6)
+            read *
+        end if
     case ('crash')
         nullify (nowhere)
         if (rank == 1) nowhere(1) = 5
