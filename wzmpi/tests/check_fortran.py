@@ -82,12 +82,12 @@ def check_asked(binaries, program, out):
     has_begun = checking.comes_true(lambda: "reads\n" in said.read_text(), running)
     is_told = has_begun and checking.answered(running, lambda: re.search(ASKED, said.read_text()))
     try:
-        running.communicate(b"a line\n", timeout=checking.LONGEST)
-    except subprocess.TimeoutExpired:
-        running.kill()
-        running.wait()
-    is_so = is_told and running.returncode == 0 and "and goes on\n" in said.read_text()
-    return checking.reported(is_so, f"signals.f90 asked: status {running.returncode}: {said.read_text()}")
+        with running.stdin as to:
+            to.write(b"a line\n")
+    except BrokenPipeError:
+        pass
+    status = checking.ended(running)
+    return checking.reported(is_told and status == 0 and "and goes on\n" in said.read_text(), f"signals.f90 asked: status {status}: {said.read_text()}")
 
 
 def check_signals(binaries, out):

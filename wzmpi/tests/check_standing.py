@@ -3,9 +3,8 @@
 import re
 import signal
 import subprocess
-import time
 
-from checking import HERE, compiled, reported, run
+from checking import HERE, answered, comes_true, compiled, ended, reported, run, with_signals
 
 SURE = "wzrun: stalled: no rank can go on, and tests can't come true any more\n"
 NOT_SURE = ("wzrun: warning: no rank goes on: tests can't come true any more "
@@ -33,6 +32,9 @@ UNTIL = NOT_SURE + """  ranks 0 and 2 wait in MPI_Barrier at loops.c:43
     for a message from rank 0, tag 4: MPI_Iprobe at loops.c:42
   so they wait for one another: 0 -> 1 -> 0
 """
+# A busy machine may need the longer times, and may have the one answer before an end come at a bad moment.
+TIMES = (5, 20, 80, 320)
+MOST_TRIES = 5
 STANDING = """  ranks 0, 3 and 4 wait in MPI_Wait at loops.c:66
     for MPI_Ibarrier at loops.c:64, place 0 of MPI_COMM_WORLD, which rank 2 has not called
   rank 1 tests in vain for N s, at loops.c:9
@@ -56,64 +58,48 @@ def check_loops(binaries, program):
 
 
 def check_timeout(binaries, program, text):
-    words = ["-n", "5", "--timeout", "5", "--text", str(text)]
-    status, said = run([str(binaries / "wzrun"), *words, str(program), "computing"])
-    right = (status, plain(said)) == (124, f"wzrun: --timeout ends the run after 5 s: here the ranks stand:\n{STANDING}") and "post 0 barrier" in text.read_text()
-    return reported(right, f"loops computing, --timeout: status {status}:\n{said}")
+    for seconds in TIMES:
+        words = ["-n", "5", "--timeout", str(seconds), "--text", str(text)]
+        status, said = run([str(binaries / "wzrun"), *words, str(program), "computing"])
+        right = (status, plain(said)) == (124, f"wzrun: --timeout ends the run after {seconds} s: here the ranks stand:\n{STANDING}") and "post 0 barrier" in text.read_text()
+        if right:
+            return 0
+    return reported(False, f"loops computing, --timeout: status {status}:\n{said}")
 
 
 def check_warned(binaries, program, said):
     """A loop that the time may end is warned of once, and the run goes on."""
     with said.open("w") as to:
         running = subprocess.Popen([str(binaries / "wzrun"), "-n", "3", str(program), "until"], stdout=to, stderr=to, preexec_fn=with_signals)
-    for _ in range(240):
-        time.sleep(0.5)
-        if plain(said.read_text()) == UNTIL:
-            break
+    comes_true(lambda: plain(said.read_text()) == UNTIL, running)
     goes_on = running.poll() is None
     running.terminate()
-    try:
-        running.wait(timeout=60)
-    except subprocess.TimeoutExpired:
-        running.kill()
-        running.wait()
+    ended(running)
     return reported(goes_on and plain(said.read_text()).startswith(UNTIL), f"loops until: goes on {goes_on}:\n{said.read_text()}")
 
 
-def ask_until_steady(running, said):
-    """Asks by SIGQUIT until all ranks stand where they stay: on a busy machine that takes a while."""
-    for _ in range(120):
-        time.sleep(0.5)
-        running.send_signal(signal.SIGQUIT)
-        if f"wzrun: SIGQUIT: here the ranks stand:\n{STANDING}" in plain(said.read_text()):
-            return True
-    return False
-
-
-def with_signals():
-    """A shell gives programs in its background SIGINT and SIGQUIT as ignored."""
-    signal.signal(signal.SIGINT, signal.SIG_DFL)
-    signal.signal(signal.SIGQUIT, signal.SIG_DFL)
+def end_by(number, words, said, timeline):
+    """Whether a run answers SIGQUIT, and whether it goes on then until a signal ends it. It is asked until all ranks stand where they stay."""
+    timeline.unlink(missing_ok=True)
+    with said.open("w") as to:
+        running = subprocess.Popen(words, stdout=to, stderr=to, preexec_fn=with_signals)  # pylint: disable=subprocess-popen-preexec-fn
+    steady = answered(running, lambda: f"wzrun: SIGQUIT: here the ranks stand:\n{STANDING}" in plain(said.read_text()))
+    running.send_signal(number)
+    status = ended(running)
+    told = plain(said.read_text()).endswith(f"wzrun: {number.name} ends the run: here the ranks stand:\n{STANDING}")
+    return steady, steady and told and status == 128 + number and timeline.exists()
 
 
 def check_signals(binaries, program, out):
     """SIGQUIT is answered, and the run goes on until SIGINT or SIGTERM."""
     failed, said, timeline = 0, out / "loops.said", out / "loops.json"
     for number in (signal.SIGINT, signal.SIGTERM):
-        timeline.unlink(missing_ok=True)
         words = [str(binaries / "wzrun"), "-n", "5", "--timeline", str(timeline), str(program), "computing"]
-        with said.open("w") as to:
-            running = subprocess.Popen(words, stdout=to, stderr=to, preexec_fn=with_signals)  # pylint: disable=subprocess-popen-preexec-fn
-        steady = ask_until_steady(running, said)
-        running.send_signal(number)
-        try:
-            running.wait(timeout=60)
-        except subprocess.TimeoutExpired:
-            running.kill()
-            running.wait()
-        told = plain(said.read_text()).endswith(f"wzrun: {number.name} ends the run: here the ranks stand:\n{STANDING}")
-        right = steady and told and running.returncode == 128 + number and timeline.exists()
-        failed += reported(right, f"loops computing, {number.name}: status {running.returncode}:\n{said.read_text()}")
+        for _ in range(MOST_TRIES):
+            steady, right = end_by(number, words, said, timeline)
+            if right or not steady:
+                break
+        failed += reported(right, f"loops computing, {number.name}:\n{said.read_text()}")
     return failed
 
 

@@ -55,10 +55,28 @@ def comes_true(is_so, running):
 
 
 def answered(running, is_so):
-    """Whether the answers to SIGQUIT come to be so: the run is asked again until they are."""
+    """Whether the answers to SIGQUIT come to be so: the run is asked again until they are. Before it takes SIGQUIT, that would end it."""
 
     def asked():
         running.send_signal(signal.SIGQUIT)
         return is_so()
 
-    return comes_true(asked, running)
+    return comes_true(lambda: catches(running.pid, signal.SIGQUIT), running) and comes_true(asked, running)
+
+
+def catches(process, number):
+    """Whether a process has a handler for a signal."""
+    try:
+        lines = pathlib.Path(f"/proc/{process}/status").read_text().splitlines()
+    except OSError:
+        return False
+    return any(line.startswith("SigCgt:") and int(line.split()[1], 16) >> (number - 1) & 1 for line in lines)
+
+
+def ended(running):
+    """Waits for the end of a run that was asked to end, and gives its status."""
+    try:
+        return running.wait(timeout=LONGEST)
+    except subprocess.TimeoutExpired:
+        running.kill()
+        return running.wait()
