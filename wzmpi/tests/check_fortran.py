@@ -87,7 +87,7 @@ def check_asked(binaries, program, out):
     except BrokenPipeError:
         pass
     status = checking.ended(running)
-    return checking.reported(is_told and status == 0 and "and goes on\n" in said.read_text(), f"signals.f90 asked: status {status}: {said.read_text()}")
+    return checking.reported(is_told and status == 0 and "and goes on\n" in said.read_text(), f"signals.f90 asked: status {status}: {said.read_text()[-3000:]}")
 
 
 def check_signals(binaries, out):

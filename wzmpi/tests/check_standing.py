@@ -99,7 +99,7 @@ def check_signals(binaries, program, out):
             steady, right = end_by(number, words, said, timeline)
             if right or not steady:
                 break
-        failed += reported(right, f"loops computing, {number.name}:\n{said.read_text()}")
+        failed += reported(right, f"loops computing, {number.name}:\n{said.read_text()[-3000:]}")
     return failed
 
 

@@ -1,8 +1,9 @@
 """Threads of a rank, as the level of MPI_Init_thread allows them, of threads.c: for check.py."""
 
 import re
+import subprocess
 
-from checking import HERE, compiled, reported, run
+from checking import HERE, comes_true, compiled, ended, reported, run
 
 AT = r"threads\.c:(\d+)"
 # Of each wrong case: the sentence, whose lines are both calls'.
@@ -24,12 +25,12 @@ def line_of(text):
 def check_wrong(binaries, program):
     failed = 0
     send = line_of("MPI_Send(&one, 1, MPI_INT, rank, 3, MPI_COMM_SELF)")
-    second = {"serialized": line_of("MPI_Send(&two, 1, MPI_INT, 0, 3, MPI_COMM_SELF)"), "funneled": line_of("MPI_Barrier(MPI_COMM_WORLD);"), "single": line_of("MPI_Comm_size(")}
+    second = {"serialized": line_of("MPI_Send(&two, 1, MPI_INT, 0, 5, MPI_COMM_SELF)"), "funneled": line_of("MPI_Barrier(MPI_COMM_WORLD);"), "single": line_of("MPI_Comm_size(")}
     for name, pattern in WRONG.items():
         status, said = run([str(binaries / "wzrun"), "-n", "3", str(program), name])
         match = re.fullmatch(pattern, said.replace(f"{HERE}/", ""))
         lines = {int(it) for it in match.groups()} if match else set()
-        wanted = {line_of("MPI_Recv(&one, 1, MPI_INT, 0, 3, MPI_COMM_SELF"), second[name]} if name == "serialized" else {send, second[name]}
+        wanted = {line_of("MPI_Recv(&one, 1, MPI_INT, size - 1, 3, MPI_COMM_WORLD"), second[name]} if name == "serialized" else {send, second[name]}
         failed += reported(status == 2 and lines == wanted, f"threads {name}: status {status}, lines {lines} and not {wanted}:\n{said}")
     return failed
 
@@ -44,10 +45,18 @@ def check_right(binaries, program):
     return failed
 
 
+def check_warned(binaries, program, said):
+    """Where all threads wait, that is warned of, and the run goes on."""
+    with said.open("w") as to:
+        running = subprocess.Popen([str(binaries / "wzrun"), "-n", "2", str(program), "waiting"], stdout=to, stderr=to)
+    warned = comes_true(lambda: said.read_text().replace(f"{HERE}/", "").startswith(WAITING), running)
+    goes_on = running.poll() is None
+    running.terminate()
+    return reported(warned and goes_on and ended(running) == 143, f"threads waiting: status {ended(running)}:\n{said.read_text()}")
+
+
 def check(binaries, out):
     program = compiled(binaries, HERE / "threads.c", out / "threads")
-    failed = check_wrong(binaries, program) + check_right(binaries, program)
-    status, said = run([str(binaries / "wzrun"), "-n", "2", "--timeout", "12", str(program), "waiting"])
-    failed += reported(status == 124 and said.replace(f"{HERE}/", "").startswith(WAITING), f"threads waiting: status {status}:\n{said}")
+    failed = check_wrong(binaries, program) + check_right(binaries, program) + check_warned(binaries, program, out / "threads.said")
     print("check.py: threads of a rank call as their level allows" if failed == 0 else f"check.py: {failed} runs of threads.c failed")
     return failed

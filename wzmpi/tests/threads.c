@@ -30,13 +30,19 @@ static void *receive_one(void *unused) {
     MPI_Recv(&one, 1, MPI_INT, 0, 3, MPI_COMM_SELF, MPI_STATUS_IGNORE);
     return unused;
 }
-/* One thread waits in a call as the other calls. */
+static void *receive_other(void *unused) {
+    MPI_Recv(&one, 1, MPI_INT, size - 1, 3, MPI_COMM_WORLD, MPI_STATUS_IGNORE);
+    return unused;
+}
+/* One thread waits in a call for what another rank may send still, and the other calls until the first is there: for a minute at most. */
 static void serialized(void) {
     pthread_t thread;
-    pthread_create(&thread, NULL, receive_one, NULL);
-    usleep(5000);
-    MPI_Send(&two, 1, MPI_INT, 0, 3, MPI_COMM_SELF);
-    pthread_join(thread, NULL);
+    if (rank > 0) sleep(100);
+    else pthread_create(&thread, NULL, receive_other, NULL);
+    for (int turn = 0; rank == 0 && turn < 60000; turn++) {
+        usleep(1000);
+        MPI_Send(&two, 1, MPI_INT, 0, 5, MPI_COMM_SELF);
+    }
 }
 
 /* ---- right, under MPI_THREAD_MULTIPLE */
