@@ -43,6 +43,8 @@ EXPLAINED = ["root", "blocking", "lacking", "crossed", "missing_start", "missing
 MODULES = [check_calling, check_processes, check_sanitizers, check_schedules, check_standing, check_threads]
 # The programs without a mistake.
 RIGHT = [HERE / "right.c", HERE / "right_edges.c"]
+# The examples some of whose runs deadlock: one of so many ends well, however busy the machine is.
+TRIES = {"server": 60}
 # How many ranks each right program is run with, where these aren't 1, 2 and 5.
 RIGHT_RANKS = {"many_places": [2], "threads": [2], "grid": [4, 6], "intercommunicators": [2, 3, 5], "neighbors": [1, 2, 4]}
 
@@ -220,7 +222,10 @@ def check_examples(binaries, out):
         head = source.read_text().split("*/")[0]
         words = re.search(r"wzrun (.*?) \./(\w+)", head)
         status = int(re.search(r"status (\d+)", head)[1])
-        got, said = run([str(binaries / "wzrun"), *words[1].split(), str(program)])
+        for _ in range(TRIES.get(source.stem, 1)):
+            got, said = run([str(binaries / "wzrun"), *words[1].split(), str(program)])
+            if got == status:
+                break
         lines = [it.strip()[2:] for it in head.splitlines() if it.strip().startswith("> ")]
         if got != status or said.replace(f"{source.parent}/", "").splitlines() != lines:
             failed += 1

@@ -14,6 +14,7 @@ SANITIZERS = {
 RIGHT = ["average.c", "early.c", "hello.cpp"]
 # A race is seen where the threads' accesses come close to one another, which a busy machine may prevent.
 MOST_TRIES = 10
+RUNS = 20  # of a program without MPI, which show whether programs run under a sanitizer here
 
 
 def library_of(name):
@@ -25,9 +26,27 @@ def library_of(name):
     return path if pathlib.Path(path).is_absolute() else None
 
 
+def lacks(out, name):
+    """The cases of sanitized.c that a program without MPI can't show on this machine; None: it doesn't run there. Where the kernel places memory at more places
+    than ThreadSanitizer knows, some runs fail and others don't; where ptrace is forbidden, leaks aren't looked for."""
+    source, program = out / "plain.c", out / f"plain_{name}"
+    source.write_text("#include <stdlib.h>\nint main(int argc, char **argv) {\n    char *volatile kept = malloc(argc);\n    if (argc > 1) kept = NULL;\n    free(kept);\n    return argv == NULL;\n}\n")
+    built, said = run(["gcc", f"-fsanitize={name}", str(source), "-o", str(program)])
+    environment = {**os.environ, "ASAN_OPTIONS": "detect_leaks=0"}
+    if built != 0 or any(run([str(program)], env=environment)[0] != 0 for _ in range(RUNS)):
+        return None
+    status, said = run([str(program), "leak"])
+    return [] if name != "address" or (status != 0 and SANITIZERS[name][2]["leak"] in said) else ["leak"]
+
+
 def check_one(binaries, out, name, library):
     _, variables, wrong = SANITIZERS[name]
-    environment = {**os.environ, **variables, "LD_PRELOAD": library}
+    lacking = lacks(out, name)
+    if lacking is None:
+        print(f"check.py: programs don't run under -fsanitize={name} here, so it isn't checked")
+        return 0
+    environment = {**os.environ, **variables, "LD_PRELOAD": library, **({"ASAN_OPTIONS": "detect_leaks=0"} if lacking else {})}
+    wrong = {case: words for case, words in wrong.items() if case not in lacking}
     failed = 0
     for source in [HERE.parent / "examples" / it for it in RIGHT] + [HERE / "sanitized.c"]:
         program = compiled(binaries, source, out / f"{name}_{source.stem}", "-g", f"-fsanitize={name}")

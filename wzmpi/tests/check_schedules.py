@@ -9,6 +9,8 @@ from checking import HERE, compiled, reported, run
 
 TIMES = 20
 AT_ONCE = 5  # runs; a loop of tests in vain is judged after two seconds
+# So many microseconds rank 2 comes later than the others, in one try after the other: by the last one of them the others are there on the busiest machine.
+LATER = [30000 * 2**turn for turn in range(10)]
 # Of each case: the ranks, lines of the run that is shown, and where the ranks wait once it is replayed.
 CASES = {
     "server": (3, ["MPI_Waitany, schedules.c:32, completes MPI_Igather, schedules.c:18", "MPI_Igather, schedules.c:18"], ["MPI_Waitany at schedules.c:34", "MPI_Barrier at schedules.c:36"]),
@@ -36,15 +38,19 @@ def plain(said):
     return said.replace(f"{HERE}/", "")
 
 
-def explained(binaries, program, name, schedule):
-    """Has the run that --explain shows written into a file. Of three runs one ends, however busy the machine is."""
-    ranks, lines, _ = CASES[name]
-    words = [str(binaries / "wzrun"), "-n", str(ranks), "--explain", "--write-schedule", str(schedule), str(program), name]
-    for _ in range(3):
-        status, said = run(words)
+def ended_well(words):
+    """Status and what is said of the first run that ends well; else of the last one."""
+    for later in LATER:
+        status, said = run([*words, str(later)])
         if status == 0:
             break
-    said = plain(said)
+    return status, plain(said)
+
+
+def explained(binaries, program, name, schedule):
+    """Has the run that --explain shows written into a file, after one that ends."""
+    ranks, lines, _ = CASES[name]
+    status, said = ended_well([str(binaries / "wzrun"), "-n", str(ranks), "--explain", "--write-schedule", str(schedule), str(program), name])
     shown = status == 0 and "stalls in some runs (proved)" in said and "a run that stalls:" in said and all(it in said for it in lines)
     return reported(shown and schedule.read_text().endswith("end deadlock\n"), f"schedules {name}, --explain: status {status}:\n{said}")
 
@@ -67,8 +73,8 @@ def check_replay(binaries, program, name, schedule):
     calls = [re.sub(r"completes nothing, \d+ times", "completes nothing", it) for it in again.read_text().splitlines()]
     wanted = [re.sub(r"completes nothing, \d+ times", "completes nothing", it) for it in schedule.read_text().splitlines()]
     failed += reported([it for it in calls if "nothing" not in it] == [it for it in wanted if "nothing" not in it], f"schedules {name}: a replay writes {calls}, and had {wanted}")
-    free = [run([str(binaries / "wzrun"), "-n", str(CASES[name][0]), str(program), name])[0] for _ in range(5)]
-    return failed + reported(0 in free, f"schedules {name}: without a schedule the runs end with {free}")
+    free = ended_well([str(binaries / "wzrun"), "-n", str(CASES[name][0]), str(program), name])
+    return failed + reported(free[0] == 0, f"schedules {name}: without a schedule no run ends: {free}")
 
 
 def check_altered(binaries, program, out, schedule):
@@ -123,7 +129,7 @@ def check_right(binaries, program, out):
 def check_messages(binaries, program, out):
     """Whose message a receive or a probe from any rank gets is a choice, too."""
     kept, failed, words = out / "first_come", 0, [str(binaries / "wzrun"), "-n", "3"]
-    status, said = run([*words, "--write-schedule", str(kept), str(program), "first_come"])
+    status, said = ended_well([*words, "--write-schedule", str(kept), str(program), "first_come"])
     lines = plain(kept.read_text()).splitlines()
     sources = [it for it in lines if ": from " in it]
     failed += reported((status, said) == (0, "") and [it.split(":")[0] for it in sources] == ["MPI_Iprobe, schedules.c", *3 * ["MPI_Recv, schedules.c"]], f"schedules first_come: status {status}: {said}{lines}")
@@ -143,6 +149,9 @@ def check_messages(binaries, program, out):
 def check_debugger(binaries, program, schedule):
     if shutil.which("gdb") is None:
         print("check.py: there is no gdb, so --schedule isn't tried with it")
+        return 0
+    if run(["gdb", "-q", "-batch", "-ex", "break main", "-ex", "run", "-ex", "next", "--args", str(binaries / "wzrun")])[0] != 0:
+        print("check.py: gdb can't run programs here, so --schedule isn't tried with it")
         return 0
     words = ["gdb", "-q", "-batch", "-ex", "set breakpoint pending on", "-ex", "set debuginfod enabled off", "-ex", "break schedules.c:33", "-ex", "run", "-ex", "print which", "-ex", "continue", "--args"]
     status, said = run([*words, str(binaries / "wzrun"), "-n", "3", "--schedule", str(schedule), str(program), "server"])

@@ -1,10 +1,10 @@
-/* Programs some of whose runs end and others deadlock, as it comes which requests a call completes: schedules NAME, of which check_schedules.py knows what is said. */
+/* Programs some of whose runs end and others deadlock, as it comes which requests a call completes: schedules NAME [MICROSECONDS], of which check_schedules.py knows what is said. */
 #include <mpi.h>
 #include <stdio.h>
 #include <string.h>
 #include <unistd.h>
 
-static int rank, mine, got[4], which;
+static int rank, mine, got[4], which, later = 30000; /* so many microseconds rank 2 comes later */
 static MPI_Comm pairs[3]; /* pairs[I]: of ranks 0 and I */
 
 static void make_pairs(void) {
@@ -25,7 +25,7 @@ static void send_job(void) {
 static void server(void) {
     MPI_Request jobs[2];
     make_pairs();
-    if (rank == 2) usleep(30000);
+    if (rank == 2) usleep((useconds_t)later);
     if (rank == 0) {
         begin_job(1, &jobs[0]);
         begin_job(2, &jobs[1]);
@@ -53,7 +53,7 @@ static void handle_some(int many, MPI_Request events[]) {
 static void event_loop(void) {
     MPI_Request events[3];
     make_pairs();
-    if (rank == 2) usleep(30000);
+    if (rank == 2) usleep((useconds_t)later);
     if (rank == 0) {
         begin_event(1, &events[0]);
         begin_event(2, &events[1]);
@@ -86,7 +86,7 @@ static void race(void) {
 static void first_come(void) {
     MPI_Status first, second;
     int there = 0;
-    if (rank == 2) usleep(30000);
+    if (rank == 2) usleep((useconds_t)later);
     for (int tag = 0; rank > 0 && tag < 2; tag++) MPI_Send(&mine, 1, MPI_INT, 0, tag, MPI_COMM_WORLD);
     if (rank == 0) {
         while (!there) MPI_Iprobe(MPI_ANY_SOURCE, 0, MPI_COMM_WORLD, &there, &first);
@@ -121,6 +121,7 @@ static const struct {
 int main(int argc, char **argv) {
     MPI_Init(&argc, &argv);
     MPI_Comm_rank(MPI_COMM_WORLD, &rank);
+    if (argc > 2) sscanf(argv[2], "%d", &later);
     for (size_t i = 0; i < sizeof cases / sizeof cases[0]; i++)
         if (argc > 1 && strcmp(cases[i].name, argv[1]) == 0) cases[i].run();
     MPI_Finalize();
