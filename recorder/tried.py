@@ -13,8 +13,8 @@
 The programs stand in tried/. One with a fault is ended as soon as no rank has begun or ended a call for a second, and any after four
 minutes. A sentence is false where a right program is said to have a fault or to stall, and where a wrong one is said to have none, of the
 records or of the text that join.py makes of them; a line that should have been there and wasn't counts as failed too. A program that failed
-without a false sentence is run once more, since on a busy machine it may have been ended too early, and one that isn't through then is
-skipped. The status is 1 where one failed. The oracle is the program that the variable COLLJOB names, or ./colljob at the top of the repository.
+without a false sentence is run again, four times at most, since on a busy machine it may have been ended too early, and one that isn't through
+then is skipped. The status is 1 where one failed. The oracle is the program that the variable COLLJOB names, or ./colljob at the top of the repository.
 """
 
 import argparse
@@ -47,7 +47,10 @@ SETTINGS = {"OMPI_ALLOW_RUN_AS_ROOT": "1", "OMPI_ALLOW_RUN_AS_ROOT_CONFIRM": "1"
 # Where a rank has used RAN nanoseconds of a processor in its call without leaving it, or slept there, and its file has it in that call for a
 # second, it hangs: on a machine with ten times as much to do as it has processors, 5 milliseconds were too few for making a window with MPICH,
 # whose ranks give no turns away. Where no rank's time goes on, GONE seconds long, its processes have died.
-SECONDS, STILL, WORKS, RAN, GONE = 240, 1.2, 2.0, 1e8, 20
+SECONDS, STILL, WORKS, RAN, GONE = 240, 1.2, 2.0, 1e8, 60
+
+# How often a program is run that failed without a false sentence, and how long what started the ranks has for their end.
+TRIES, TO_END = 5, 30
 
 # To judge a record takes a second.
 JUDGED = 600
@@ -154,7 +157,7 @@ def end(run):
     if run.poll() is None:
         run.terminate()
         try:
-            run.wait(5)
+            run.wait(TO_END)
         except subprocess.TimeoutExpired:
             pass
     try:
@@ -317,12 +320,13 @@ def is_false(outcome):
     return any(it.startswith("FALSE") for it in outcome.failed)
 
 
-def try_twice(library, name, folder, again):
-    """The same, of a second run where the first one failed without a false sentence."""
-    outcome = try_one(library, name, folder, again)
-    if outcome and outcome.failed and not is_false(outcome) and not again:
-        print(f"{name}, {library.name}: {outcome.ended}, {'; '.join(outcome.failed)}; once more", file=sys.stderr)
+def try_again(library, name, folder, again):
+    """The same, of a further run where one failed without a false sentence."""
+    for turn in range(TRIES):
         outcome = try_one(library, name, folder, again)
+        if not outcome or not outcome.failed or is_false(outcome) or again or turn > 0 and outcome.ended.startswith("not through"):
+            break
+        print(f"{name}, {library.name}: {outcome.ended}, {'; '.join(outcome.failed)}", file=sys.stderr)
     return outcome
 
 
@@ -361,11 +365,11 @@ def table_lines(table, libraries):
 def outcomes(library, names, folder, words):
     """The programs' names and outcomes. Several are tried at a time by processes of their own."""
     if words.jobs == 1:
-        yield from ((name, try_twice(library, name, folder, words.again)) for name in names)
+        yield from ((name, try_again(library, name, folder, words.again)) for name in names)
         return
     with concurrent.futures.ProcessPoolExecutor(words.jobs) as pool:
         try:
-            yield from zip(names, pool.map(functools.partial(try_twice, library, folder=folder, again=words.again), names))
+            yield from zip(names, pool.map(functools.partial(try_again, library, folder=folder, again=words.again), names))
         except BaseException:
             pool.shutdown(wait=False)
             for process in multiprocessing.active_children():  # each ends its run
