@@ -30,7 +30,7 @@ limit="timeout 900"
 helgrind="valgrind --tool=helgrind -q --error-exitcode=9 --fair-sched=yes"
 # What Helgrind doesn't check, because the library's own atomics order it.
 blocks=$here/c/helgrind_blocks.c
-allocating="-Wl,--wrap=malloc,--wrap=realloc"
+allocating="-Wl,--wrap=wz_open,--wrap=rattle_alloc,--wrap=rattle_realloc"
 passed=0
 failed=0
 under_way=
@@ -168,7 +168,7 @@ check_c() {
     # shellcheck disable=SC2086
     [ ! "$checks_threads" ] || try_client given tsan $c -fsanitize=thread "$here/c/given.c" $shim $static $copying
     # shellcheck disable=SC2086
-    try_client memory static $c "$here/c/memory.c" $static -Wl,--wrap=malloc,--wrap=realloc,--wrap=calloc,--wrap=aligned_alloc
+    try_client memory static $c "$here/c/memory.c" $static -Wl,--wrap=malloc,--wrap=realloc,--wrap=calloc,--wrap=aligned_alloc,--wrap=free
     counted="-Wl,--wrap=wz_run_work -Wl,--wrap=wz_return_work -Wl,--wrap=wz_step -Wl,--wrap=wz_settle -Wl,--wrap=pthread_cond_wait"
     # shellcheck disable=SC2086
     try_client bounded static $c "$here/c/bounded.c" $shim $static $counted

@@ -1,5 +1,7 @@
 /* Each allocation of each call is refused in turn: the call answers WZ_NO_MEMORY with nothing changed, and once there is memory it is done.
-   To be linked with -Wl,--wrap of malloc, realloc, calloc and aligned_alloc. One thread plays all ranks. */
+   And what memory of long rows an engine keeps for later ones, until it is closed.
+   To be linked with -Wl,--wrap of malloc, realloc, calloc, aligned_alloc and free. One thread plays all ranks. */
+#include <malloc.h>
 #include <stdio.h>
 #include <stdlib.h>
 #include <string.h>
@@ -12,6 +14,11 @@ static long refused;
 /* How many calls were refused memory. */
 static long refusals;
 
+/* How many blocks of at least LONG bytes there are. */
+static long long_blocks;
+
+enum { LONG = 1 << 18 };
+
 void *__real_malloc(size_t size);
 void *__real_realloc(void *old, size_t size);
 void *__real_calloc(size_t many, size_t size);
@@ -20,10 +27,23 @@ void *__wrap_malloc(size_t size);
 void *__wrap_realloc(void *old, size_t size);
 void *__wrap_calloc(size_t many, size_t size);
 void *__wrap_aligned_alloc(size_t alignment, size_t size);
+void __real_free(void *block);
+void __wrap_free(void *block);
 
 static bool is_refused(void) { return refused > 0 && --refused == 0; }
 
-void *__wrap_malloc(size_t size) { return is_refused() ? NULL : __real_malloc(size); }
+static bool is_long(void *block) { return block != NULL && malloc_usable_size(block) >= LONG; }
+
+void *__wrap_malloc(size_t size) {
+    void *block = is_refused() ? NULL : __real_malloc(size);
+    if (is_long(block)) long_blocks++;
+    return block;
+}
+
+void __wrap_free(void *block) {
+    if (is_long(block)) long_blocks--;
+    __real_free(block);
+}
 
 void *__wrap_realloc(void *old, size_t size) { return is_refused() ? NULL : __real_realloc(old, size); }
 
@@ -138,6 +158,53 @@ static void outside(void) {
     HOLDS(out == sizeof got);
 }
 
+/* A sum of two ranks, of rows of LONG bytes. The first rank's outcome goes into `held`, which has bytes, and the second's is copied. */
+static void sum_of_long_rows(wz_engine *engine, wz_bytes *held) {
+    static int32_t given[LONG / 4], got[LONG / 4];
+    wz_call sum = { WZ_ALLREDUCE, WZ_SUM, WZ_INT32, 0, LONG / 4 };
+    wz_request requests[2] = { WZ_NULL_REQUEST, WZ_NULL_REQUEST };
+    size_t out = 9;
+    for (uint8_t rank = 0; rank < 2; rank++)
+        WITH_LITTLE(wz_post(engine, rank, 0, &sum, given, sizeof given, &requests[rank]), requests[rank].generation == 0);
+    for (int combinations = 0; combinations < 2; combinations++) {
+        wz_work work = WZ_EMPTY_WORK;
+        WITH_LITTLE(wz_take_work(engine, &work), !work.full);
+        WITH_LITTLE(wz_run_work(&work), work.full);
+        WITHOUT(wz_return_work(engine, &work));
+    }
+    WITH_LITTLE(wz_settle(engine), true);
+    WITHOUT(wz_take_outcome(engine, 0, &requests[0], sizeof got, held));
+    WITHOUT(wz_test(engine, 1, &requests[1], got, sizeof got, &out));
+    HOLDS(out == sizeof got);
+}
+
+/* An engine keeps the memory of long rows for later ones, no more of it than they need, and frees it when it is closed, though an outcome of
+   it is held. */
+static void kept(void) {
+    wz_engine engine = WZ_CLOSED_ENGINE;
+    wz_limits limits = wz_greatest_limits(2);
+    wz_bytes held = WZ_EMPTY_BYTES;
+    static char copy[LONG];
+    size_t out = 9;
+    limits.slots = 8;
+    limits.places = 8;
+    HOLDS(wz_open(&engine, &limits, &two, 1, members, 2) == WZ_DONE && long_blocks == 0);
+    long first = 0;
+    for (int round = 0; round < 5; round++) {
+        DONE(wz_give(&held, NULL, 0));
+        sum_of_long_rows(&engine, &held);
+        DONE(wz_copy_out(&held, copy, sizeof copy, &out));
+        if (round == 1) first = long_blocks;
+    }
+    HOLDS(first > 0 && long_blocks == first);
+    DONE(wz_give(&held, NULL, 0));
+    sum_of_long_rows(&engine, &held);
+    WITHOUT(wz_close(&engine));
+    HOLDS(long_blocks == 1);
+    WITHOUT(wz_copy_out(&held, copy, sizeof copy, &out));
+    HOLDS(out == sizeof copy && long_blocks == 0);
+}
+
 static void counted(void) {
     wz_engine engine = WZ_CLOSED_ENGINE;
     wz_limits limits = wz_greatest_limits(2);
@@ -190,6 +257,7 @@ int main(void) {
     sums(600); /* long enough to be shared, not copied */
     counted();
     outside();
+    kept();
     shim();
     HOLDS(refusals > 50);
     puts("memory: all as it should be");

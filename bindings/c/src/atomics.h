@@ -49,7 +49,7 @@ static inline int swap(atomic_int *word, int value) {
 /* A call of the library outside the lock. Atomics of the library alone order what such calls do to its memory: ranks
    count the owners of a block, and publish results to each other. Both checkers see the accesses, and no such order.
    ThreadSanitizer therefore compares no access of the call, and learns which row of the caller's it wrote; Helgrind
-   checks no block that the call allocated (helgrind_blocks.c). */
+   doesn't check the memory that such calls use (helgrind_blocks.c). */
 #if defined(WZ_TSAN)
 void AnnotateIgnoreWritesBegin(const char *file, int line); /* and reads */
 void AnnotateIgnoreWritesEnd(const char *file, int line);
@@ -57,10 +57,6 @@ void __tsan_write_range(void *row, size_t bytes);
 static inline void begin_unlocked_call(void) { AnnotateIgnoreWritesBegin(__FILE__, __LINE__); }
 static inline void end_unlocked_call(void) { AnnotateIgnoreWritesEnd(__FILE__, __LINE__); }
 static inline void declare_written(void *row, size_t bytes) { __tsan_write_range(row, bytes); }
-#elif defined(WZ_HELGRIND)
-void begin_unlocked_call(void);
-void end_unlocked_call(void);
-static inline void declare_written(void *row, size_t bytes) { (void)row, (void)bytes; }
 #else
 static inline void begin_unlocked_call(void) {}
 static inline void end_unlocked_call(void) {}
