@@ -1,6 +1,7 @@
-/* Collectives that the engine doesn't carry out as they are: a count for each rank, types with gaps or of several basic types beyond its limits, floating point
-   numbers with an operation, operations of the program. Each member puts what it gives into parcels, and the engine's collective moves the parcels' addresses.
-   So the order of the calls, their agreement and who gets what are the engine's; the bytes, and what is computed of them, are not. */
+/* Collectives that the engine doesn't carry out as they are: gatherv, scatterv, alltoallv and alltoallw; rows beyond the engine's limits; collectives of
+   intercommunicators and of neighbours; reductions of other types, or by operations of the program. Each member puts what it gives into parcels, and the engine's
+   collective moves the parcels' addresses. So the order of the calls, their agreement and who gets what are the engine's; the bytes, and what is computed of
+   them, are not. */
 #include "collectives.h"
 #include "diagnostics.h"
 
