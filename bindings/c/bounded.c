@@ -59,9 +59,9 @@ int32_t __wrap_wz_settle(wz_engine *engine) {
 
 /* Whether a combination is computed only once another thread has one too, and whether two did. */
 static bool meets, two_met;
-static int in_meeting, waits_left = 5000;
+static int in_meeting, waits_left = 60000;
 
-/* Waits for another thread's combination, for some seconds at most, all of them together. */
+/* Waits for another thread's combination, for a minute at most, all of them together. */
 static void meet(void) {
     if (!__atomic_load_n(&meets, __ATOMIC_SEQ_CST)) return;
     if (__atomic_add_fetch(&in_meeting, 1, __ATOMIC_SEQ_CST) > 1) __atomic_store_n(&two_met, true, __ATOMIC_SEQ_CST);
