@@ -25,8 +25,8 @@ static="$lib/libworzsunab.a -pthread"
 shared="-L$lib -lworzsunab -pthread -Wl,-rpath,$lib"
 # The combiner compiled with a client, as a sanitizer needs it and a test of its insides: the library's is left out then.
 shim="-I$here/c/src $(echo "$here"/c/src/*.c)"
-# No check takes more than a minute on an idle machine; one that takes a quarter of an hour hangs.
-limit="timeout 900"
+# No check takes more than a minute on an idle machine; one that takes an hour hangs.
+limit="timeout 3600"
 helgrind="valgrind --tool=helgrind -q --error-exitcode=9 --fair-sched=yes"
 # What Helgrind doesn't check, because the library's own atomics order it.
 blocks=$here/c/helgrind_blocks.c
@@ -218,7 +218,7 @@ check_one_refusal() {
     check "build sum with one refusal" $c "$here/c/sum.c" "$here/c/one_refusal.c" -Wl,--wrap=wz_post $static -o "$work/one_refusal"
     [ -x "$work/one_refusal" ] || return
     check "sum with one refusal ends, and all learn of it" sh -c \
-        "timeout --foreground 600 $work/one_refusal 2>&1 | sort | cut -c1-40 > $work/sentences; grep -c 'no wait can end' $work/sentences | grep -qx 3 && grep -q 'rank 2: there is no communicator 9' $work/sentences"
+        "timeout --foreground 3000 $work/one_refusal 2>&1 | sort | cut -c1-40 > $work/sentences; grep -c 'no wait can end' $work/sentences | grep -qx 3 && grep -q 'rank 2: there is no communicator 9' $work/sentences"
     # shellcheck disable=SC2086
     [ ! "$checks_threads" ] || try_client one_refusal tsan $c -fsanitize=thread "$here/c/sum.c" "$here/c/one_refusal.c" -Wl,--wrap=wz_post $shim $static
 }
