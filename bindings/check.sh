@@ -68,14 +68,18 @@ check() {
     fi
 }
 
-# Whether programs of a compiler run under ThreadSanitizer here. Where the kernel places memory at more places than the sanitizer knows, some
-# runs fail, and others don't.
+# Whether a program runs under ThreadSanitizer here. Where the kernel places memory at more places than the sanitizer knows, some runs fail, and
+# others don't.
+runs_often() {
+    for _ in 1 2 3 4 5 6 7 8 9 10 11 12 13 14 15 16 17 18 19 20; do
+        "$1" > /dev/null 2>&1 || return 1
+    done
+}
+
+# Whether programs of a compiler do.
 runs_threads_checked() {
     echo 'int main(void) { return 0; }' > "$work/empty.c"
-    $1 -fsanitize=thread "$work/empty.c" -o "$work/empty" > /dev/null 2>&1 || return 1
-    for _ in 1 2 3 4 5 6 7 8 9 10 11 12 13 14 15 16 17 18 19 20; do
-        "$work/empty" > /dev/null 2>&1 || return 1
-    done
+    $1 -fsanitize=thread "$work/empty.c" -o "$work/empty" > /dev/null 2>&1 && runs_often "$work/empty"
 }
 
 # The clients, and what each is run with: a line for each run.
@@ -323,7 +327,7 @@ check_rust_threads() {
     flags="-Zsanitizer=thread -Cunsafe-allow-abi-mismatch=sanitizer --cfg worzsunab_tsan"
     echo 'fn main() {}' > "$work/empty.rs"
     # shellcheck disable=SC2086
-    if rustc $flags --target "$host" "$work/empty.rs" -o "$work/empty.rust" > /dev/null 2>&1 && "$work/empty.rust" > /dev/null 2>&1; then
+    if rustc $flags --target "$host" "$work/empty.rs" -o "$work/empty.rust" > /dev/null 2>&1 && runs_often "$work/empty.rust"; then
         export RUSTFLAGS="$flags" WORZSUNAB_LIB="$work/checked"
         instrument_library "$work/checked"
         check "build the library, tsan" test -e "$work/checked/libworzsunab.a"
