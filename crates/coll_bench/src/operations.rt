@@ -9,6 +9,10 @@ use std::rt::Clock;
 use std::sync::Wait;
 use std::thread::Threads;
 
+/// The barriers before the samples. They take some ten milliseconds and more, in which the system gives each thread a processor: threads that
+/// have just been started may share one while others are idle.
+const WARM_UP: u32 = 5_000;
+
 /// The median of a measure's samples, in nanoseconds a collective.
 fn median<R: Threads + Wait + Clock + Sync>(
     rt: &R,
@@ -18,6 +22,7 @@ fn median<R: Threads + Wait + Clock + Sync>(
 ) -> anyhow::Result<u128> {
     let task = Measurement {
         measure,
+        warm_up: WARM_UP,
         samples: measure.samples(),
         turns: measure.turns(threads.ranks),
     };
@@ -52,6 +57,7 @@ fn once<R: Threads + Wait + Clock + Print + Sync>(
 ) -> anyhow::Result<()> {
     let task = Measurement {
         measure,
+        warm_up: 0,
         samples: 1,
         turns: 1,
     };

@@ -154,9 +154,11 @@ pub fn play<L: Entries, R: Wait + Clock, C: Clock>(
 ) -> Result<Vec<u128>, Refusal> {
     let Measurement {
         measure,
+        warm_up,
         samples,
         turns,
     } = task;
+    one_by_one(rt, alloc, port, Measure::Barrier, warm_up)?;
     let mut request = Request::null();
     if measure == Measure::Starts {
         request = init(rt, port, measure)?;

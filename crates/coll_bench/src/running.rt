@@ -20,10 +20,11 @@ pub struct ThreadCounts {
     pub workers: u8,
 }
 
-/// What is measured, by how many samples, and how many collectives each sample has.
+/// What is measured, after how many barriers, by how many samples, and how many collectives each sample has.
 #[derive(Clone, Copy, Debug)]
 pub struct Measurement {
     pub measure: Measure,
+    pub warm_up: u32,
     pub samples: u32,
     pub turns: u32,
 }
