@@ -91,6 +91,7 @@ runs_of() {
         waiting) for ranks in 2 4; do echo "$ranks"; done ;;
         mixed) printf '%s\n' "2 200 1" "4 200 2" "8 100 3" ;;
         helped) printf '%s\n' "2 20 1" "4 20 2" "8 5 8" ;;
+        lingering) for threads in 1 2 8; do echo "$threads"; done ;;
         *) echo ;;
     esac
 }
@@ -185,13 +186,18 @@ check_c() {
     try_client helped static $c "$here/c/helped.c" $shim $static $helping
     # shellcheck disable=SC2086
     [ ! "$checks_threads" ] || try_client helped tsan $c -fsanitize=thread "$here/c/helped.c" $shim $static $helping
+    lingering="-Wl,--wrap=nanoseconds,--wrap=let_time_pass,--wrap=sleep_at,--wrap=sched_yield,--wrap=wz_run_work"
+    # shellcheck disable=SC2086
+    try_client lingering static $c "$here/c/lingering.c" $shim $static $lingering
+    # shellcheck disable=SC2086
+    [ ! "$checks_threads" ] || try_client lingering tsan $c -fsanitize=thread "$here/c/lingering.c" $shim $static $lingering
     check_with_progress
     check_one_refusal
     check_helgrind
     check_headers c c11 "$cc" gcc clang
     check_tables
     check_symbols
-    check_leaks refusals cases each given memory sum explained left "waits 3 5" "calls 3 2" "threads 4 20 quiet" "helped 3 3 2"
+    check_leaks refusals cases each given memory sum explained left "waits 3 5" "calls 3 2" "threads 4 20 quiet" "helped 3 3 2" "lingering 2"
 }
 
 # Clients whose engines have progress threads, which change nothing that a client sees.
@@ -231,13 +237,14 @@ check_one_refusal() {
 check_helgrind() {
     has valgrind || { skip "C under Helgrind" "there is no valgrind"; return; }
     echo '#include <valgrind/helgrind.h>' | $cc -x c -fsyntax-only - 2> /dev/null || { skip "C under Helgrind" "there is no valgrind/helgrind.h"; return; }
-    for words in sum one_refusal explained given "waits 2 3" "waits 4 1" "calls 3 1" "calls 8 1" "mixed 2 10 1" "mixed 3 5 2" "threads 2 5 quiet" "threads 4 3 quiet" "bounded 2 1" "helped 2 2 1" "helped 3 2 2"; do
+    for words in sum one_refusal explained given "waits 2 3" "waits 4 1" "calls 3 1" "calls 8 1" "mixed 2 10 1" "mixed 3 5 2" "threads 2 5 quiet" "threads 4 3 quiet" "bounded 2 1" "helped 2 2 1" "helped 3 2 2" "lingering 2"; do
         client=${words%% *}
         arguments=${words#"$client"}
         sources=$here/c/$client.c
         [ "$client" != bounded ] || sources="$sources $counted"
         [ "$client" != given ] || sources="$sources $copying"
         [ "$client" != helped ] || sources="$sources $helping"
+        [ "$client" != lingering ] || sources="$sources $lingering"
         [ "$client" != one_refusal ] || sources="$sources $here/c/sum.c -Wl,--wrap=wz_post"
         # shellcheck disable=SC2086
         [ -x "$work/$client.helgrind" ] || check "build $client, helgrind" $c -DWZ_HELGRIND $sources "$blocks" $shim $static $allocating -o "$work/$client.helgrind"

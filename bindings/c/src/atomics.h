@@ -38,6 +38,11 @@ static inline int swap(atomic_int *word, int value) {
     return old;
 }
 
+static inline void add(atomic_int *word, int more) {
+    declare_store(word);
+    atomic_fetch_add(word, more);
+}
+
 #if defined(__SANITIZE_THREAD__)
 #define WZ_TSAN
 #elif defined(__has_feature)

@@ -15,6 +15,12 @@
    A progress thread has a record behind those of the ranks, and is like a rank that waits until the engine is closed:
    it is called where work is left and no rank waits. It plays no rank, so it counts nowhere where ranks are counted.
 
+   A thread that looks at its record before it sleeps misses no call. Whoever calls it stores CALLED, then gives the lock
+   up, then reads `sleeps`. The thread stores `sleeps`, then reads its record, then reads the lock, and these words have
+   one order. So where the caller reads `sleeps` too early to wake the thread, the thread finds that it is called. It
+   then finds the lock free, or held by one who gives it up later, reads `sleeps` and wakes the thread. A thread that
+   looks hasn't stored `sleeps`, so to call it takes no system call.
+
    models/shim.pml is this protocol in Promela. Private to the library. */
 #ifndef WZ_COMBINER_H
 #define WZ_COMBINER_H
@@ -85,10 +91,10 @@ enum { TRIES = 16, IN_VAIN = 3 };
 #define WZ_REPAID 60000000000
 #endif
 
-/* A progress thread that finds no more work looks for so long, in nanoseconds, before it sleeps, where there is a
-   processor for each rank and each progress thread. */
+/* A progress thread without work looks for so long, in nanoseconds, before it sleeps, where the ranks and the progress
+   threads of all engines of the process have a processor each: ranks that post anew each millisecond find it awake. */
 #ifndef WZ_LINGER
-#define WZ_LINGER 0
+#define WZ_LINGER 1000000
 #endif
 
 /* ---- operations */
@@ -220,6 +226,8 @@ uint32_t count_records(struct wz_combiner *combiner);
 bool is_helper(const struct wz_combiner *combiner, const struct record *record);
 /* How many processors there are for the process's threads; 1 where that isn't known. */
 uint32_t count_processors(void);
+/* So many ranks and progress threads of the process are there from now on, or fewer where it is below 0. */
+void count_threads(int more);
 /* Room for progress threads, none of which is started; NULL where there is no memory. */
 struct helper *allocate_helpers(void);
 /* Ends all progress threads. */

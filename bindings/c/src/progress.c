@@ -30,30 +30,45 @@ bool is_helper(const struct wz_combiner *combiner, const struct record *record) 
     return record > &combiner->records[combiner->ranks];
 }
 
-/* ---- the thread */
+/* ---- threads and processors */
 
-/* How long the thread looks for more work before it sleeps, in nanoseconds: not at all where a rank may need its
-   processor. */
-static int64_t linger(struct wz_combiner *combiner) {
-    return combiner->ranks + (uint32_t)load(&combiner->helpers) <= combiner->processors ? WZ_LINGER : 0;
+/* The ranks and the progress threads of all engines that are open in the process, because one program may have an engine
+   for each communicator. */
+static atomic_int threads_in_process;
+
+void count_threads(int more) {
+    declare_word(&threads_in_process);
+    add(&threads_in_process, more);
 }
 
+/* ---- the thread */
+
+/* Whether the thread, which has had nothing to do since then, looks again before it sleeps. It doesn't where a rank may
+   need its processor: where there are more threads than processors, and where its yields have gone to other programs
+   for more than their share. */
+static bool lingers(const struct wz_combiner *combiner, const struct record *me, int looks, int64_t since) {
+    if (load(&threads_in_process) > (int)combiner->processors) return false;
+    if (looks > WZ_CLOSE_LOOKS && !me->yields) return false;
+    return nanoseconds() - since < WZ_LINGER;
+}
+
+/* It lingers anew once it has slept, because it may have been woken for a combination that another thread took. */
 static void *run(void *argument) {
     struct helper *helper = argument;
     struct wz_combiner *combiner = helper->combiner;
     struct record *me = helper->record;
-    int64_t worked = nanoseconds();
+    int64_t since = nanoseconds();
     for (int look = 0; !is_over(me); look++) {
         if (needs_lock(me) && try_lock(combiner)) {
             combine(combiner, me);
-            worked = nanoseconds();
-            look = 0;
-        } else if (nanoseconds() - worked < linger(combiner)) {
+        } else if (lingers(combiner, me, look, since)) {
             let_time_pass(me, look);
+            continue;
         } else {
             sleep_at(combiner, me);
-            look = 0;
         }
+        since = nanoseconds();
+        look = 0;
     }
     return NULL;
 }
@@ -86,7 +101,10 @@ static void end_from(wz_shared *shared, size_t many) {
     size_t helpers = (size_t)load(&combiner->helpers);
     operation.many = many;
     perform(shared, &operation);
-    for (size_t i = many; i < helpers; i++) pthread_join(combiner->started[i].thread, NULL);
+    for (size_t i = many; i < helpers; i++) {
+        pthread_join(combiner->started[i].thread, NULL);
+        count_threads(-1);
+    }
     count_helpers(shared, many);
 }
 
@@ -99,10 +117,12 @@ static bool start(struct wz_combiner *combiner, size_t number) {
     helper->operation = operation_of(WAITS, UINT8_MAX, NULL);
     helper->record->operation = &helper->operation;
     store(&helper->record->stage, WAITING);
+    count_threads(1);
     sigfillset(&all);
     pthread_sigmask(SIG_SETMASK, &all, &before);
     bool is_started = pthread_create(&helper->thread, NULL, run, helper) == 0;
     pthread_sigmask(SIG_SETMASK, &before, NULL);
+    if (!is_started) count_threads(-1);
     return is_started;
 }
 

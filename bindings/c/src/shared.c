@@ -78,6 +78,7 @@ int32_t wz_shared_open(wz_shared *shared, const wz_limits *limits, const uint8_t
         members += sizes[comm];
     }
     open_records(combiner);
+    count_threads((int)combiner->ranks);
     shared->at = combiner;
     return WZ_DONE;
 }
@@ -95,6 +96,7 @@ int32_t wz_shared_close(wz_shared *shared) {
     struct wz_combiner *combiner = shared->at;
     if (combiner == NULL) return WZ_CLOSED;
     end_helpers(shared);
+    count_threads(-(int)combiner->ranks);
     wz_close(&combiner->engine);
     if (combiner->is_left) wz_drop_work(combiner->next);
     for (uint32_t i = 0; i < combiner->ranks + 1 + MOST_PROGRESS; i++) {
