@@ -186,7 +186,7 @@ check_c() {
     try_client helped static $c "$here/c/helped.c" $shim $static $helping
     # shellcheck disable=SC2086
     [ ! "$checks_threads" ] || try_client helped tsan $c -fsanitize=thread "$here/c/helped.c" $shim $static $helping
-    lingering="-Wl,--wrap=nanoseconds,--wrap=let_time_pass,--wrap=sleep_at,--wrap=sched_yield,--wrap=wz_run_work"
+    lingering="-DWZ_CREDIT=60000000000 -Wl,--wrap=nanoseconds,--wrap=let_time_pass,--wrap=sleep_at,--wrap=sched_yield,--wrap=wz_run_work"
     # shellcheck disable=SC2086
     try_client lingering static $c "$here/c/lingering.c" $shim $static $lingering
     # shellcheck disable=SC2086

@@ -2,7 +2,8 @@
    they sleep, and where they are called between their last look and their sleep. They sleep at once where a rank may
    need their processor: where threads are more than processors, also by another engine, and where their yields go to
    other programs. Linked with -Wl,--wrap=nanoseconds,--wrap=let_time_pass,--wrap=sleep_at,--wrap=sched_yield
-   -Wl,--wrap=wz_run_work, it has a clock of its own, and holds threads up.
+   -Wl,--wrap=wz_run_work, it has a clock of its own, and holds threads up. With -DWZ_CREDIT=60000000000 a thread that
+   is preempted in a yield looks on.
    lingering THREADS */
 #include <stdio.h>
 #include <stdlib.h>
@@ -11,7 +12,7 @@
 #include "check.h"
 #include "combiner.h"
 
-enum { LONG = 1024, RANKS = 2, ROUNDS = 20, LOOKS = 20, SECONDS = 120 };
+enum { LONG = 1024, RANKS = 2, ROUNDS = 20, LOOKS = 20, SECONDS = 600 };
 
 int64_t __wrap_nanoseconds(void);
 void __real_let_time_pass(struct record *me, int looks);
@@ -60,9 +61,9 @@ void __wrap_sleep_at(struct wz_combiner *combiner, struct record *me) {
     __real_sleep_at(combiner, me);
 }
 
-/* After one that takes so long its thread yields no more for a second. No other takes long, whatever runs beside. */
+/* After one that takes so long its thread yields no more for some seconds. */
 int __wrap_sched_yield(void) {
-    if (load(&is_crowded)) sleep_for(20000);
+    if (load(&is_crowded)) sleep_for(700000);
     return 0;
 }
 
