@@ -3,15 +3,11 @@
 //! prints how many samples it gave.
 
 use crate::measure::Measure;
-use crate::running::{Measurement, ThreadCounts, run_task};
+use crate::running::{Measurement, ThreadCounts, WARM_UP, run_task};
 use std::alloc::Global;
 use std::rt::Clock;
 use std::sync::Wait;
 use std::thread::Threads;
-
-/// The barriers before the samples. They take some ten milliseconds and more, in which the system gives each thread a processor: threads that
-/// have just been started may share one while others are idle.
-const WARM_UP: u32 = 5_000;
 
 /// The median of a measure's samples, in nanoseconds a collective.
 fn median<R: Threads + Wait + Clock + Sync>(

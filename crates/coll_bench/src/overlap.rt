@@ -6,7 +6,7 @@ ghost use Rattle.std.specs.Prelude.{◌≡◌, IfOk, vec_len};
 use crate::collective::Collective;
 use crate::computing::{Computing, Measured};
 use crate::overlapping::{Medians, OverlapTask, Overlapping, Parts};
-use crate::running::{ThreadCounts, config_for};
+use crate::running::{ThreadCounts, WARM_UP, config_for};
 use coll_kinds::{Kind, Refusal};
 use coll_shared::{NoGate, run_ranks};
 use std::alloc::Global;
@@ -79,6 +79,7 @@ fn task(overlap: Overlap, posts: bool, computing: Computing) -> OverlapTask {
     OverlapTask {
         collective: overlap.collective,
         ranks: overlap.threads.ranks,
+        warm_up: WARM_UP,
         samples: samples(overlap.collective),
         posts,
         computing,
@@ -140,6 +141,7 @@ pub fn run<R: Threads + Wait + Clock + Print + Sync>(rt: &R, alloc: Global) -> a
             let once = OverlapTask {
                 collective,
                 ranks: 2,
+                warm_up: 0,
                 samples: 1,
                 posts: true,
                 computing: Computing::lasting(measured, 20, 10, 1),

@@ -17,6 +17,8 @@ use std::time::Instant;
 pub struct OverlapTask {
     pub collective: Collective,
     pub ranks: u8,
+    /// The barriers before the samples.
+    pub warm_up: u32,
     pub samples: u32,
     /// Whether it posts and waits; else it only computes.
     pub posts: bool,
@@ -47,6 +49,9 @@ impl<C: Clock> RankProgram<Medians> for Overlapping<'_, C> {
     fn run<L: Entries, R: Wait + Clock>(self, rt: &R, port: &mut Port<L>) -> Medians {
         let Overlapping { clock, alloc, task } = self;
         let mut words = OwnWords::new(alloc)?;
+        for _barrier in 0..task.warm_up {
+            synchronise(rt, alloc, port)?;
+        }
         let mut samples = Samples::new(alloc);
         for turn in 0..task.samples {
             samples.push(sample(rt, clock, alloc, port, task, &mut words, turn)?)?;

@@ -13,6 +13,10 @@ use std::rt::Clock;
 use std::sync::Wait;
 use std::thread::Threads;
 
+/// The barriers before the samples. They take some ten milliseconds and more, in which the system gives each thread a processor: threads that
+/// have just been started may share one while others are idle.
+pub const WARM_UP: u32 = 5_000;
+
 /// How many threads there are.
 #[derive(Clone, Copy, Debug)]
 pub struct ThreadCounts {
