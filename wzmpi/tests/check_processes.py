@@ -1,10 +1,13 @@
 """What a rank has for itself as a process has it, of processes.c and its library, plugin and streams: for check.py."""
 
+import ctypes
+import os
 import re
 import subprocess
 
 from checking import HERE, compiled, reported, run
 
+CLONE_FS = 0x200  # of linux/sched.h
 # What a process of its own prints: the C library's rand, srand(7) and rand, random; srand48(5), drand48 and lrand48.
 DRAWN = "1804289383 1045618677 1863967299 0.524840 585950151"
 
@@ -22,6 +25,14 @@ def is_whole(said, ranks, lines, pattern):
     for match in re.finditer(pattern, said, re.MULTILINE):
         came[int(match[1])].append(int(match[2]))
     return all(numbers == list(range(lines)) for numbers in came.values())
+
+
+def has_folders():
+    """Whether a thread may have a working directory and a umask of its own here: some containers forbid it."""
+    child = os.fork()
+    if child == 0:
+        os._exit(ctypes.CDLL(None).unshare(CLONE_FS) != 0)
+    return os.waitpid(child, 0)[1] == 0
 
 
 def wants(out):
@@ -44,6 +55,9 @@ def wants(out):
 def check_cases(binaries, out, program):
     failed = 0
     wanted = wants(out)
+    if not has_folders():
+        print("check.py: threads can't have working directories of their own here, so those of ranks aren't checked")
+        del wanted["folders"]
     for name, is_so in wanted.items():
         status, said = run([str(binaries / "wzrun"), "-n", "3", "--quiet", "--text", "kept.job", str(program), name], cwd=out, input="5 6\n")
         written = (out / "kept.job").exists()
@@ -67,7 +81,8 @@ def check_told(binaries, out, program):
     """What stays common is told, once: where there are several ranks, and with the library that wzcc didn't link."""
     _, said = run([str(binaries / "wzrun"), "-n", "2", str(program), "common"], cwd=out)
     functions = re.findall(r"^wzrun: note: ranks are threads .*: (.*)$", said, re.MULTILINE)
-    failed = reported(functions == ["setenv, getpid"] or functions == ["getpid, setenv"], f"processes common: {said}")
+    wanted = ["getpid", "setenv"] if has_folders() else ["chdir", "getpid", "setenv", "umask"]
+    failed = reported([sorted(it.split(", ")) for it in functions] == [wanted], f"processes common: {said}")
     _, said = run([str(binaries / "wzrun"), "-n", "1", str(program), "common"], cwd=out)
     failed += reported(said == "", f"processes common of one rank: {said}")
     words = subprocess.run([str(binaries / "wzcc"), "--show", "-c", "x.c"], capture_output=True, text=True, check=True).stdout.split()
