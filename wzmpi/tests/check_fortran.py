@@ -91,7 +91,7 @@ def check_asked(binaries, program, out):
 
 
 def check_signals(binaries, out):
-    """SIGQUIT is answered, and a crash is told beside libgfortran's backtrace."""
+    """SIGQUIT is answered, and a crash is reported beside libgfortran's backtrace."""
     program = compiled(binaries, HERE / "signals.f90", out)
     status, said = run(binaries, ["-n", "2"], program, "crash")
     is_so = status == 139 and "wzrun: rank 1 crashes: segmentation fault" in said and "Backtrace for this error" in said and "signals.f90:22" in said
