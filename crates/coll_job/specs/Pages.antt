@@ -2,7 +2,7 @@
 use denote.Ref.{Bor}
 use Rattle.std.specs.Prelude.{◌≡◌, ◌||◌, ℕ, [], ◌∷◌, Bool, List, Option, Some, None, is_some, map}
 use Rattle.std.specs.Option.{option_copied, option_map}
-use Rattle.coll_page.specs.Pages.{page_text}
+use Rattle.coll_html.specs.Pages.{page_text}
 use Rattle.coll_report.specs.Reports.{Closed}
 use Rattle.coll_report.specs.declared.span.Span.{Span}
 use Rattle.coll_views.specs.declared.request.TracedRequest.{TracedRequest}

@@ -14,7 +14,7 @@ use crate::task::Explaining;
 use crate::viewing::stats_text;
 use coll_check::{apart_line, is_apart};
 use coll_diagnosis::{ExplainOptions, Form};
-use coll_page::{PageTexts, page_text};
+use coll_html::{PageTexts, page_text};
 use coll_run::Recording;
 use coll_script::{CountedReader, JobFault, ReportFault, Witnessed, read_text, write_lines};
 use coll_views::{RankRequests, timeline_json};

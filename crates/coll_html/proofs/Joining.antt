@@ -1,7 +1,7 @@
 -- Texts that are appended one after the other.
 use Rattle.std.proofs.Common.{◌≡◌, ◌∙◌, ◌++◌, ℕ, List, Result, Ok, Err, ap, subst, append_assoc, codes}
 use Rattle.std.specs.Prelude.{OnOk}
-use Rattle.coll_page.specs.Pages.{member, names_text}
+use Rattle.coll_html.specs.Pages.{member, names_text}
 
 -- two members, of which other texts with the same bytes are known
 pub named : {T E : Type 0} (r : Result T E) (out mid new program file one two : List ℕ)

@@ -1,5 +1,5 @@
-use Rattle.coll_page.proofs.Joining.{named}
-use Rattle.coll_page.proofs.page.push_names.Goals as goal
+use Rattle.coll_html.proofs.Joining.{named}
+use Rattle.coll_html.proofs.page.push_names.Goals as goal
 
 pub returns : goal.returns
 returns c =

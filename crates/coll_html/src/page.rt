@@ -1,7 +1,7 @@
 //! The page.
 
 ghost use Rattle.std.specs.Prelude.{◌≡◌, ◌++◌, IfOk, OnOk};
-ghost use Rattle.coll_page.specs.Pages.{data_text, explained_text, member, names_text, page_begin, page_end, page_text, run_text};
+ghost use Rattle.coll_html.specs.Pages.{data_text, explained_text, member, names_text, page_begin, page_end, page_text, run_text};
 
 use crate::fixed::{FIXED_BEGIN, FIXED_END};
 use crate::quoting::push_quoted;

@@ -1,7 +1,7 @@
 use Rattle.std.proofs.Common.{◌≡◌, ◌++◌, drop}
 use Rattle.std.specs.Prelude.{flat_map}
-use Rattle.coll_page.specs.Quoted.{byte_text}
-use Rattle.coll_page.proofs.quoting.push_bytes.Given as goal
+use Rattle.coll_html.specs.Quoted.{byte_text}
+use Rattle.coll_html.proofs.quoting.push_bytes.Given as goal
 
 abbrev pub invariant-loop-byte : goal.invariant-loop-byte
 invariant-loop-byte l =

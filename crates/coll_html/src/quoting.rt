@@ -1,7 +1,7 @@
 //! Texts as strings of JSON.
 
 ghost use Rattle.std.specs.Prelude.{◌≡◌, ◌++◌, ◌<◌, flat_map, OnOk};
-ghost use Rattle.coll_page.specs.Quoted.{byte_text, code_text, hex_digit, quoted};
+ghost use Rattle.coll_html.specs.Quoted.{byte_text, code_text, hex_digit, quoted};
 
 use std::alloc::AllocError;
 

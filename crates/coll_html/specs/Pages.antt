@@ -1,7 +1,7 @@
 -- The page: its fixed part, and between its beginning and its end the data.
 use Rattle.std.specs.Prelude.{ℕ, ◌++◌, List, codes}
-use Rattle.coll_page.specs.declared.fixed.TheConstants.{FIXED_BEGIN, FIXED_END}
-use Rattle.coll_page.specs.Quoted.{quoted}
+use Rattle.coll_html.specs.declared.fixed.TheConstants.{FIXED_BEGIN, FIXED_END}
+use Rattle.coll_html.specs.Quoted.{quoted}
 
 -- a member of the data: its name with what stands before it, and a text
 unfoldable pub member : List ℕ → List ℕ → List ℕ
