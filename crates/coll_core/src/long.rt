@@ -38,6 +38,9 @@ pub(crate) struct Long {
     pub(crate) segments: Segments,
     /// The count of owners for an outcome that is put together.
     pub(crate) shell: Shell,
+    /// The number of bytes of the row that the member gives, of which a buffer has several where
+    /// members gather.
+    pub(crate) unit: u32,
     /// The combination that was handed out last, until the buffer is written to.
     awaited: Option<Awaited>,
     ghost awaits: { ForSome awaited (λ a. a.cell ≡ combination_of a.op a.ty (read_of segments.bytes a.left) (read_of segments.bytes a.right)) },
@@ -56,12 +59,13 @@ fn part_behind(from: Region, done: u32, unit: u32) -> Region
 }
 
 impl Long {
-    pub(crate) fn new(segments: Segments, shell: Shell) -> Long
+    pub(crate) fn new(segments: Segments, shell: Shell, unit: u32) -> Long
         ensures { result.segments ≡ segments }
     {
         Long {
             segments,
             shell,
+            unit,
             awaited: None,
         }
     }

@@ -59,17 +59,6 @@ impl Request {
         }
     }
 
-    /// Returns the number of bytes of the row that the member gives, of which a buffer has several
-    /// where members gather.
-    #[inline(always)]
-    pub(crate) fn unit(&self) -> u32
-        ensures { (schedule (shown self.now)).size < 2 ^ 32 }
-    {
-        let schedule = self.plan.schedule();
-        let _size = schedule.size();
-        schedule.input().len
-    }
-
     /// Returns the next action; None after the last.
     pub(crate) fn next(&self) -> Option<Action>
         ensures is { result ≡ next_of (shown self.now) }
@@ -185,7 +174,7 @@ impl Request {
         };
         let mut work = Work::new(
             alloc, ticket, self.round, self.index, op, ty, first, second, shared, blocks,
-        );
+        )?;
         if left.len >= LONG {
             self.buffer.await_result(alloc, &mut work, left, right);
         }

@@ -1,4 +1,4 @@
-ghost use Rattle.std.specs.Prelude.{◌≡◌, IfOk, IfErr, IfSome};
+ghost use Rattle.std.specs.Prelude.{◌≡◌, IfOk, IfErr, IfSome, IsOkUnless};
 ghost use Rattle.coll_core.specs.Works.{IsPiece, result_of};
 
 use crate::combined::combined;
@@ -14,12 +14,19 @@ use std::marker::Model;
 /// dropped: `run`, `Core::commit` and `Core::abandon` take it, or `discard` if its engine is gone.
 #[derive(Debug)]
 pub struct Work {
-    alloc: Global,
     ticket: Ticket,
     round: usize,
     index: usize,
     op: Op,
     ty: Datatype,
+    /// In a block of their own, because each step returns by value what may be a combination.
+    operands: Box<Operands>,
+}
+
+/// What a combination combines, and where its result goes.
+#[derive(Debug, Drop)]
+struct Operands {
+    alloc: Global,
     left: Bytes,
     right: Bytes,
     /// Where other members that combine the same operands look for the result.
@@ -36,11 +43,11 @@ impl Model for Work {
 
     ghost Value = { Piece };
 
-    ghost view = { λ w. record { ticket = w.ticket; round = w.round; index = w.index; op = w.op; ty = w.ty; left = w.left; right = w.right } };
+    ghost view = { λ w. record { ticket = w.ticket; round = w.round; index = w.index; op = w.op; ty = w.ty; left = w.operands.value.left; right = w.operands.value.right } };
 
     ghost invariant = { λ w. let piece : Piece =
-        record { ticket = w.ticket; round = w.round; index = w.index; op = w.op; ty = w.ty; left = w.left; right = w.right } in
-        IsPiece piece × IfSome w.cell (λ cell. cell ≡ result_of piece) };
+        record { ticket = w.ticket; round = w.round; index = w.index; op = w.op; ty = w.ty; left = w.operands.value.left; right = w.operands.value.right } in
+        IsPiece piece × IfSome w.operands.value.cell (λ cell. cell ≡ result_of piece) };
 }
 
 /// Says what the result of a work is, for the cell's rule.
@@ -81,22 +88,29 @@ impl Work {
         right: Bytes,
         shared: Option<SharedResult>,
         blocks: Option<Home>,
-    ) -> Work
+    ) -> Result<Work, Refusal>
         requires { IsPiece (record { ticket = ticket; round = round; index = index; op = op; ty = ty; left = left; right = right }) }
-        ensures { result ≡ record { ticket = ticket; round = round; index = index; op = op; ty = ty; left = left; right = right } }
+        ensures ok { IfOk result (λ work. work ≡ record { ticket = ticket; round = round; index = index; op = op; ty = ty; left = left; right = right }) }
+        ensures refusal { IsOkUnless result Refusal.NoMemory }
     {
-        Work {
+        let operands = Operands {
             alloc,
-            ticket,
-            round,
-            index,
-            op,
-            ty,
             left,
             right,
             shared,
             cell: None,
             blocks,
+        };
+        match Box::new(alloc, operands) {
+            Ok(operands) => Ok(Work {
+                ticket,
+                round,
+                index,
+                op,
+                ty,
+                operands,
+            }),
+            Err(_) => Err(Refusal::NoMemory),
         }
     }
 
@@ -137,14 +151,14 @@ impl Work {
     pub fn left(&self) -> &[u8]
         ensures { result.now ≡ self.now.left }
     {
-        self.left.as_slice()
+        self.operands.left.as_slice()
     }
 
     /// Returns the second operand.
     pub fn right(&self) -> &[u8]
         ensures { result.now ≡ self.now.right }
     {
-        self.right.as_slice()
+        self.operands.right.as_slice()
     }
 
     /// Makes a cell for the result, which the work and the engine own. None if memory is refused.
@@ -153,7 +167,7 @@ impl Work {
         ensures cell { IfSome result (λ cell. cell ≡ result_of self.old) }
     {
         let (own, other) = ResultCell::pair(alloc, &Tag::of::<Work, ItsResult>(self))?;
-        self.cell = Some(other);
+        self.operands.cell = Some(other);
         Some(own)
     }
 
@@ -162,7 +176,7 @@ impl Work {
     fn take_cell(&mut self) -> Option<ResultCell>
         ensures { self.new ≡ self.old }
     {
-        self.cell.take()
+        self.operands.cell.take()
     }
 
     /// Puts the result into the cell.
@@ -170,7 +184,7 @@ impl Work {
     fn put(&self, bytes: &Bytes)
         requires { bytes.now ≡ result_of self.now }
     {
-        if let Some(cell) = &self.cell {
+        if let Some(cell) = &self.operands.cell {
             cell.fill(bytes);
         }
     }
@@ -198,17 +212,12 @@ impl Work {
     /// is gone, because in a live engine its request would run for ever.
     pub fn discard(self) {
         let Work {
-            alloc: _,
             ticket: _,
             round: _,
             index: _,
             op: _,
             ty: _,
-            left: _,
-            right: _,
-            shared: _,
-            cell: _,
-            blocks: _,
+            operands: _,
         } = self;
     }
 
@@ -218,16 +227,18 @@ impl Work {
     fn found_or_combined(&self) -> Result<Bytes, Refusal>
         ensures ok { IfOk result (λ bytes. bytes ≡ result_of self.now) }
     {
-        let (left, right) = (&self.left, &self.right);
-        let blocks = self.blocks.as_ref();
-        let Some(shared) = &self.shared else {
-            return combined(self.alloc, self.op, self.ty, left, right, blocks);
+        let operands = &self.operands;
+        let (left, right) = (&operands.left, &operands.right);
+        let alloc = operands.alloc;
+        let blocks = operands.blocks.as_ref();
+        let Some(shared) = &operands.shared else {
+            return combined(alloc, self.op, self.ty, left, right, blocks);
         };
         if let Some(bytes) = shared.find(self.op, self.ty, left.as_slice(), right.as_slice()) {
             return Ok(bytes);
         }
-        let bytes = combined(self.alloc, self.op, self.ty, left, right, blocks)?;
-        shared.tell(self.alloc, self.op, self.ty, (left, right), &bytes);
+        let bytes = combined(alloc, self.op, self.ty, left, right, blocks)?;
+        shared.tell(alloc, self.op, self.ty, (left, right), &bytes);
         Ok(bytes)
     }
 }

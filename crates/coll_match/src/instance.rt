@@ -213,6 +213,7 @@ impl Instance {
 
     /// Keeps a message of a member until it is taken, and answers the slot of the receiver's active request. Only NoMemory is
     /// refused, and hands the message back.
+    #[inline(always)]
     pub(crate) fn put(
         &mut self,
         from: u8,
@@ -246,6 +247,7 @@ impl Instance {
     }
 
     /// Takes a message of a member out.
+    #[inline(always)]
     pub(crate) fn take(&mut self, from: u8, envelope: Envelope) -> Option<Message>
         ensures taken { result ≡ mail_in self.old from envelope.to envelope.round }
         ensures members { length self.new.shares ≡ length self.old.shares }

@@ -74,6 +74,7 @@ impl Mailbox {
     }
 
     /// Keeps a message until it is taken. Only NoMemory is refused, and hands the message back.
+    #[inline(always)]
     pub(crate) fn put(&mut self, envelope: Envelope, bytes: Message) -> Result<(), Refused<Message>>
         requires { sent_in self.old envelope.to envelope.round ≡ None }
         ensures sent { OnOk result (sent_in self.new ≡ put_sent (sent_in self.old) envelope.to envelope.round (Some bytes)) }
@@ -98,6 +99,7 @@ impl Mailbox {
     }
 
     /// Takes a message out.
+    #[inline(always)]
     pub(crate) fn take(&mut self, envelope: Envelope) -> Option<Message>
         ensures taken { result ≡ sent_in self.old envelope.to envelope.round }
         ensures sent { sent_in self.new ≡ put_sent (sent_in self.old) envelope.to envelope.round None }

@@ -186,6 +186,7 @@ impl Matches {
 
     /// Keeps a message of a member that has joined until it is taken, and answers the slot of the receiver's active
     /// request, so that a sender needs no second look-up. Only NoMemory is refused, and hands the message back.
+    #[inline(always)]
     pub fn put(
         &mut self,
         key: Key,
@@ -219,6 +220,7 @@ impl Matches {
     }
 
     /// Takes a message out; none where none stands for that sender, receiver and round.
+    #[inline(always)]
     pub fn take(&mut self, key: Key, hint: usize, from: u8, to: u8, round: usize) -> Option<Message>
         ensures taken { result ≡ mail self.old key from to round }
         ensures gone { look_ups self.new ≡ mailed (look_ups self.old) key from to round None }

@@ -40,25 +40,21 @@ pub(crate) fn write_count(rounds: &[Round], unit: u32) -> usize {
 }
 
 impl Buffer {
-    /// Returns a region's bytes as a message. A region of a long buffer is cut into blocks of `unit`
-    /// bytes, unless these are short, and each block that lies in one segment is shared. The only
-    /// refusal is NoMemory.
+    /// Returns a region's bytes as a message. A region of a long buffer is cut into blocks, each as
+    /// long as the row that the member gives, unless these are short. Each block that lies in one
+    /// segment is shared. The only refusal is NoMemory.
     #[inline(always)]
-    pub(crate) fn message(
-        &mut self,
-        alloc: Global,
-        from: Region,
-        unit: u32,
-    ) -> Result<Message, Refusal>
+    pub(crate) fn message(&mut self, alloc: Global, from: Region) -> Result<Message, Refusal>
         requires { Inside (length self.old) from }
         ensures ok { IfOk result (λ message. message ≡ read_of self.old from) }
         ensures same { self.new ≡ self.old }
         ensures refusal { IsOkUnless result Refusal.NoMemory }
     {
-        if unit > SHORT && unit < from.len {
-            if let Memory::InSegments(segmented) = &mut self.memory {
+        if let Memory::InSegments(segmented) = &mut self.memory {
+            let unit = segmented.long.unit;
+            if unit > SHORT && unit < from.len {
                 let blocks = segmented.long.parts(alloc, from, unit)?;
-                return Ok(Message::several(blocks));
+                return Ok(Message::several(alloc, blocks)?);
             }
         }
         Ok(Message::whole(self.part(alloc, from)?))
@@ -131,9 +127,9 @@ impl Buffer {
         combined(alloc, op, ty, &first, &second, None)
     }
 
-    /// Carries out a Copy or a Combine within the buffer. A Copy of several blocks of `unit` bytes
-    /// shares each block, as `message` does. The only refusal is NoMemory.
-    pub(crate) fn act(&mut self, alloc: Global, action: Action, unit: u32) -> Result<(), Refusal>
+    /// Carries out a Copy or a Combine within the buffer. A Copy of several blocks shares each
+    /// block, as `message` does. The only refusal is NoMemory.
+    pub(crate) fn act(&mut self, alloc: Global, action: Action) -> Result<(), Refusal>
         requires fits { Fits (length self.old) action }
         requires small { length self.old < 2 ^ 32 }
         requires local { IsLocal action }
@@ -143,7 +139,7 @@ impl Buffer {
     {
         match action {
             Action::Copy { from, into } => {
-                let message = self.message(alloc, from, unit)?;
+                let message = self.message(alloc, from)?;
                 self.receive(into, message);
                 Ok(())
             }

@@ -1,6 +1,7 @@
 //! A schedule's buffer as it is laid before the engine is locked.
 
 ghost use Rattle.std.specs.Prelude.{◌≡◌, [], length, IfOk, IsOkUnless};
+ghost use Rattle.coll_core.specs.Buffers.{HasRoom, IsRoom};
 ghost use Rattle.coll_sched.specs.Families.{laid_in};
 
 use crate::buffer::actions::write_count;
@@ -30,6 +31,23 @@ impl Model for Laid {
     ghost view = { λ b. bytes_of b.memory };
 
     ghost invariant = { λ b. HasSpare b.memory };
+}
+
+// Adds the memory for the bytes in one piece and for a copy of the outcome.
+fn furnish(
+    mut segmented: Box<Segmented>,
+    alloc: Global,
+    blocks: &Blocks,
+) -> Result<Box<Segmented>, Refusal>
+    ensures same { IfOk result (λ r. r.value.long ≡ segmented.value.long) }
+    ensures own { IfOk result (λ r. IsRoom r.value.own (length r.value.long.segments.bytes)) }
+    ensures spare { IfOk result (λ r. HasRoom r.value.spare (length r.value.long.segments.bytes)) }
+    ensures refusal { IsOkUnless result Refusal.NoMemory }
+{
+    let size = segmented.long.segments.size() as usize;
+    segmented.own = blocks.take(alloc, size)?;
+    segmented.spare = blocks.take(alloc, size)?;
+    Ok(segmented)
 }
 
 impl Laid {
@@ -109,7 +127,7 @@ impl Laid {
         segments.reserve(writes)?;
         let shell = Shell::new(alloc);
         let segmented = Segmented {
-            long: Long::new(segments, shell),
+            long: Long::new(segments, shell, input.len),
             own: Vec::new(alloc),
             spare: Vec::new(alloc),
         };
@@ -122,20 +140,15 @@ impl Laid {
     }
 
     /// Returns the buffer with its memory. The only refusal is NoMemory.
+    #[inline(always)]
     pub(crate) fn furnished(self, alloc: Global, blocks: &Blocks) -> Result<Buffer, Refusal>
         ensures ok { IfOk result (λ buffer. buffer ≡ self) }
         ensures refusal { IsOkUnless result Refusal.NoMemory }
     {
         match self.memory {
-            Memory::InSegments(segmented) => {
-                let mut segmented = segmented;
-                let size = segmented.long.segments.size() as usize;
-                segmented.own = blocks.take(alloc, size)?;
-                segmented.spare = blocks.take(alloc, size)?;
-                Ok(Buffer {
-                    memory: Memory::InSegments(segmented),
-                })
-            }
+            Memory::InSegments(segmented) => Ok(Buffer {
+                memory: Memory::InSegments(furnish(segmented, alloc, blocks)?),
+            }),
             memory => Ok(Buffer { memory }),
         }
     }

@@ -13,7 +13,7 @@ ghost use Rattle.coll_refinement.specs.Engines.{Delivers};
 ghost use Rattle.coll_core.specs.declared.stepped.Stepped.TheVariants.{Quiet};
 ghost use Rattle.coll_core.specs.Cores.{seen, setting};
 ghost use Rattle.coll_core.specs.Advancing.{Brings, CanAdvance, IsReceiver, HasAdvanced, HaveLists, IsSent, NoReceiver, is_end};
-ghost use Rattle.coll_core.specs.Requests.{shown};
+ghost use Rattle.coll_core.specs.Requests.{schedule, shown};
 ghost use Rattle.coll_core.specs.Steps.{Acts, AwaitsWork, CombinesFirst, CombinesNext, CombinesShort, Finishings, HandsOut, IsActing, IsWork, Makes};
 ghost use Rattle.coll_core.specs.Steps.{Steps, left, placed, ready, running};
 ghost use Rattle.coll_core.specs.Works.{IsShort};
@@ -160,8 +160,7 @@ impl Core {
         let Ok(request) = self.arena.get_mut(ticket) else {
             unreachable!()
         };
-        let unit = request.unit();
-        let message = request.buffer.message(self.alloc, from, unit)?;
+        let message = request.buffer.message(self.alloc, from)?;
         let key = request.key();
         let hint = request.hint;
         let member = request.plan.member();
@@ -194,7 +193,7 @@ impl Core {
         let Some(message) = self.matches.take(key, hint, of, member, round) else {
             unreachable!()
         };
-        let _unit = request.unit();
+        is_addressable(request);
         request.buffer.receive(into, message);
         advance(&mut self.arena, &self.matches, ticket)
     }
@@ -211,8 +210,8 @@ impl Core {
         let Ok(request) = self.arena.get_mut(ticket) else {
             unreachable!()
         };
-        let unit = request.unit();
-        request.buffer.act(self.alloc, action, unit)?;
+        is_addressable(request);
+        request.buffer.act(self.alloc, action)?;
         Ok(advance(&mut self.arena, &self.matches, ticket))
     }
 
@@ -252,6 +251,14 @@ impl Core {
         };
         Ok(work)
     }
+}
+
+/// States that the places in a request's buffer fit into 32 bits. Does nothing at run time.
+#[inline(always)]
+fn is_addressable(request: &Request)
+    ensures { (schedule (shown request.now)).size < 2 ^ 32 }
+{
+    let _size = request.plan.schedule().size();
 }
 
 /// Tells whether an action combines operands of up to eight bytes.
