@@ -2,8 +2,12 @@
 use Rattle.std.specs.Prelude.{◌≡◌, ◌==◌, ◌&&◌, ℕ, Bool, cond, List, length, map, slice_get, unwrap_or, Option, Some, None}
 use Rattle.std.specs.List.{range_with_len}
 use Rattle.std.specs.Map.{lookup}
+use Rattle.coll_ops.specs.Combinations.{combination}
 use Rattle.coll_ops.specs.Values.{all_rows}
+use Rattle.coll_sched.specs.Served.{listing}
 use Rattle.coll_machine.specs.Steps.{AllHaveLeft}
+use Rattle.coll_match.specs.declared.combined_row.CombinedRow.{CombinedRow}
+use Rattle.coll_match.specs.declared.combined_row.Combination.{Combination}
 use Rattle.coll_match.specs.declared.envelope.Envelope.{Envelope}
 
 -- of one member: what it gave, the slot of its active request, and the messages that it sent and that weren't taken yet
@@ -58,6 +62,26 @@ joined_rows gave missing n = all_rows (map (λ m. unwrap_or (gave m) (missing m)
 -- the bytes are what all members gave, joined, so it doesn't matter what stands for one that hasn't given
 abbrev pub HasJoined : Held → List ℕ → Type 0
 HasJoined h bytes = (missing : ℕ → List ℕ) → bytes ≡ joined_rows (given_in h) missing (length h.shares)
+
+-- what the combination is, where each of its members has given; bytes of that member's choice for one that hasn't
+abbrev pub combined_rows : (ℕ → Option (List ℕ)) → (ℕ → List ℕ) → Combination → List ℕ
+combined_rows gave missing of = combination of.op of.ty (listing (λ m. unwrap_or (gave m) (missing m)) of.first of.count)
+
+-- the bytes are that combination, whatever stands for one that hasn't given
+abbrev pub HasCombined : Held → Combination → List ℕ → Type 0
+HasCombined h of bytes = (missing : ℕ → List ℕ) → bytes ≡ combined_rows (given_in h) missing of
+
+-- each cell is for the bytes of its combination
+abbrev pub AreCombined : Held → List CombinedRow → Type 0
+AreCombined h rows = (i : ℕ) (row : CombinedRow) → slice_get rows i ≡ Some row → HasCombined h row.of row.cell
+
+-- the cell of one of these rows is for these bytes, and the row is of that combination
+pub record IsCellOf (rows : List CombinedRow) (of : Combination) (bytes : List ℕ) : Type 0 where
+  pub i : ℕ
+  pub row : CombinedRow
+  pub here : slice_get rows i ≡ Some row
+  pub of_is : row.of ≡ of
+  pub cell_is : row.cell ≡ bytes
 
 -- every member has given and has no active request
 abbrev pub IsOver : Held → Type 0

@@ -1,15 +1,19 @@
-ghost use Rattle.std.specs.Prelude.{◌≡◌, ◌<◌, ◌&&◌, [], Some, None, length, is_some, is_none, IsTrue, ◌↔◌, IfOk, IfSome, OnOk, IfErr, OnErr, replicate};
+ghost use Rattle.std.specs.Prelude.{◌≡◌, ◌≢◌, ℕ, ◌+◌, ◌<◌, ◌≤◌, ◌&&◌, List, [], Some, None, length, is_some, is_none, IsTrue, ◌↔◌, IfOk, IfSome, OnOk};
+ghost use Rattle.std.specs.Prelude.{IfErr, OnErr, replicate};
 ghost use Rattle.std.specs.List.{list_all};
 ghost use Rattle.std.specs.Option.{ForSome, option_copied};
 ghost use Rattle.coll_kinds.specs.declared.refusal.Refusal.TheVariants.{NoMemory};
 ghost use Rattle.coll_kinds.specs.declared.refusal.Refused.{Refused};
 ghost use Rattle.coll_kinds.specs.Puts.{put};
 ghost use Rattle.coll_sched.specs.Worlds.{put_mail};
-ghost use Rattle.coll_match.specs.Held.{HasJoined, IsOver, given_in, mail_in, seat_in};
+ghost use Rattle.coll_match.specs.Held.{HasJoined, IsOver, combined_rows, given_in, mail_in, seat_in};
 
+use crate::combined_row::{Combination, CombinedRow, cell_of};
 use crate::envelope::Envelope;
 use crate::mailbox::Mailbox;
 use crate::message::Message;
+use crate::result_cell::ResultCell;
+use boxcar::tag::Tag;
 use coll_bytes::Bytes;
 use coll_kinds::Refused;
 use std::alloc::{AllocError, Global};
@@ -37,6 +41,8 @@ pub(crate) struct Instance {
     shares: Vec<Share>,
     /// What all members gave, joined in member order, if a member that left had put it together for its outcome.
     joined: Option<Bytes>,
+    /// Combinations of what neighbouring members gave, with cells for their results.
+    combined: Vec<CombinedRow>,
 }
 
 impl Model for Instance {
@@ -45,12 +51,12 @@ impl Model for Instance {
     ghost Value = { Held };
 
     ghost use Rattle.std.specs.Option.{ForSome};
-    ghost use Rattle.coll_match.specs.Held.{HasJoined};
+    ghost use Rattle.coll_match.specs.Held.{AreCombined, HasJoined};
     ghost use Rattle.coll_match.specs.Views.{held_of};
 
     ghost view = { λ a. held_of a.shares.items };
 
-    ghost invariant = { λ a. ForSome a.joined (HasJoined (held_of a.shares.items)) };
+    ghost invariant = { λ a. ForSome a.joined (HasJoined (held_of a.shares.items)) × AreCombined (held_of a.shares.items) a.combined.items };
 }
 
 /// Every member has given and has no active request.
@@ -106,7 +112,7 @@ impl SpareShares {
     }
 
     /// An instance of as many members as there are shares, to which none has given. It takes no memory.
-    pub(crate) fn into_instance(self) -> Instance
+    pub(crate) fn into_instance(self, alloc: Global) -> Instance
         ensures members { length result.shares ≡ length self.shares.items }
         ensures given { given_in result ≡ (λ _. None) }
         ensures seats { seat_in result ≡ (λ _. None) }
@@ -115,6 +121,7 @@ impl SpareShares {
         Instance {
             shares: self.shares,
             joined: None,
+            combined: Vec::new(alloc),
         }
     }
 }
@@ -122,7 +129,11 @@ impl SpareShares {
 impl Instance {
     /// The shares, while all that they have goes. It takes no memory.
     pub(crate) fn into_spare(self) -> SpareShares {
-        let Instance { shares, joined: _ } = self;
+        let Instance {
+            shares,
+            joined: _,
+            combined: _,
+        } = self;
         let mut shares = shares;
         empty_all(&mut shares);
         SpareShares { shares }
@@ -139,18 +150,19 @@ impl Instance {
         Ok(Instance {
             shares,
             joined: None,
+            combined: Vec::new(alloc),
         })
     }
 
     /// Keeps what a member gives.
     pub(crate) fn join(&mut self, member: u8, bytes: Bytes)
-        requires { member < length self.old.shares }
+        requires low { member < length self.old.shares }
+        requires new { given_in self.old member ≡ None }
         ensures members { length self.new.shares ≡ length self.old.shares }
         ensures given { given_in self.new ≡ put (given_in self.old) member (Some bytes) }
         ensures seats { seat_in self.new ≡ seat_in self.old }
         ensures mail { mail_in self.new ≡ mail_in self.old }
     {
-        self.joined = None;
         self.shares[usize::from(member)].given = Some(bytes);
     }
 
@@ -175,6 +187,43 @@ impl Instance {
         ensures { IfSome result (λ bytes. HasJoined self.now bytes) }
     {
         self.joined.as_ref()?.share_counted()
+    }
+
+    /// Returns whether each of `count` members from `first` on has given.
+    fn have_given(&self, first: u8, count: u8) -> bool
+        requires { first + count < 256 }
+        ensures { IsTrue result → (m : ℕ) → first ≤ m → m < first + count → given_in self.now m ≢ None }
+    {
+        for member in first..first + count {
+            if self.given(member).is_none() {
+                return false;
+            }
+        }
+        true
+    }
+
+    /// Returns an owner of the cell for the bytes of that combination, whose tag is `tag`, and whether this call made the cell. None if
+    /// there is no cell and one of the members hasn't given, or if memory is refused.
+    pub(crate) fn share_combined(
+        &mut self,
+        alloc: Global,
+        of: Combination,
+        tag: &Tag,
+    ) -> Option<(ResultCell, bool)>
+        requires few { of.first + of.count < 256 }
+        requires tag { (missing : ℕ → List ℕ) × (tag.now.numbers ≡ combined_rows (given_in self.old) missing of) }
+        ensures cell { IfSome result (λ found. found.0 ≡ tag.now.numbers) }
+        ensures same { self.new ≡ self.old }
+    {
+        if let Some(cell) = cell_of(&self.combined, of) {
+            return Some((cell, false));
+        }
+        if !self.have_given(of.first, of.count) {
+            return None;
+        }
+        let (cell, other) = ResultCell::pair(alloc, tag)?;
+        self.combined.push(CombinedRow { of, cell }).ok()?;
+        Some((other, true))
     }
 
     /// Notes the slot of a member's active request.

@@ -1,13 +1,16 @@
-ghost use Rattle.std.specs.Prelude.{◌≡◌, ◌<◌, ◌≢◌, length, Some, None, slice_get, is_some, IsTrue, ◌↔◌, OnOk, IfOk, IfSome, IfErr, OnErr};
+ghost use Rattle.std.specs.Prelude.{◌≡◌, ℕ, ◌+◌, ◌<◌, ◌≢◌, List, length, Some, None, slice_get, is_some, IsTrue, ◌↔◌, OnOk, IfOk, IfSome, IfErr, OnErr};
 ghost use Rattle.std.specs.Option.{ForSome, option_copied, option_copied_mut};
 ghost use Rattle.coll_kinds.specs.declared.refusal.Refused.{Refused};
-ghost use Rattle.coll_match.specs.Held.{HasJoined, given_in, mail_in, seat_in};
+ghost use Rattle.coll_match.specs.Held.{HasJoined, combined_rows, given_in, mail_in, seat_in};
 ghost use Rattle.coll_match.specs.Instances.{IsJoined, IsLast, dissolved, given, is_of, joined, left, look_ups, mail, mailed, nothing, roomed, seated, seats};
 ghost use Rattle.coll_match.specs.Instances.{size, standing};
 
+use crate::combined_row::Combination;
 use crate::envelope::Envelope;
 use crate::instance::{Instance, SpareShares};
 use crate::message::Message;
+use crate::result_cell::ResultCell;
+use boxcar::tag::Tag;
 use coll_bytes::Bytes;
 use coll_kinds::{Refusal, Refused};
 use coll_machine::Key;
@@ -86,7 +89,7 @@ impl Matches {
     {
         if let Some(spare) = self.spare.take() {
             if spare.is_for(n) {
-                return Ok(spare.into_instance());
+                return Ok(spare.into_instance(self.alloc));
             }
         }
         Instance::new(self.alloc, n)
@@ -128,6 +131,24 @@ impl Matches {
         ensures { IfSome result (IsJoined self.now key) }
     {
         self.at(key, hint)?.share_joined()
+    }
+
+    /// Returns an owner of the cell for the bytes of that combination, whose tag is `tag`, and whether this call made the cell. The
+    /// instance keeps the cell. None if there is no cell and one of the members hasn't given, or if memory is refused.
+    pub fn share_combined(
+        &mut self,
+        key: Key,
+        hint: usize,
+        of: Combination,
+        tag: &Tag,
+    ) -> Option<(ResultCell, bool)>
+        requires few { of.first + of.count < 256 }
+        requires tag { (missing : ℕ → List ℕ) × (tag.now.numbers ≡ combined_rows (given self.old key) missing of) }
+        ensures cell { IfSome result (λ found. found.0 ≡ tag.now.numbers) }
+        ensures same { self.new ≡ self.old }
+    {
+        let alloc = self.alloc;
+        self.at_mut(key, hint)?.share_combined(alloc, of, tag)
     }
 
     /// Notes the slot of the active request of a member that has joined. It takes no memory.

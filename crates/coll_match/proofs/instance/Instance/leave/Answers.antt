@@ -6,7 +6,8 @@ use Rattle.std.specs.Option.{ForSome}
 use Rattle.std.proofs.lemmas.List.{length-map}
 use Rattle.coll_match.specs.declared.instance.Share.{Share}
 use Rattle.coll_match.specs.Views.{part_of}
-use Rattle.coll_match.proofs.Shares.{all_over, has_left, over_all, low_share, parts_kept, parts_set, share_joined}
+use Rattle.coll_match.proofs.Shares.{all_over, has_left, over_all, low_share, parts_kept, parts_set}
+use Rattle.coll_match.proofs.CombinedRows.{known_kept}
 use Rattle.coll_match.proofs.instance.Instance.leave.Goals as goal
 
 pub returns-clause-seats : goal.returns-clause-seats
@@ -42,7 +43,7 @@ returns-clause-mail c =
 
 pub invariant_of-self : goal.invariant_of-self
 invariant_of-self c =
-    share_joined c.args.joined c.self.inside.shares.items c.from.result
+    known_kept c.args.joined c.self.inside.combined.items c.self.inside.shares.items c.from.result
     (record { given = c.index_mut.result.now.given; slot = None; mailbox = c.index_mut.result.now.mailbox }) c.index_mut.result.now
     (low_share _ _ _ _ c.self.view_is c.requires.low c.from.ensures) c.index_mut.ensures.value refl
-    (subst (λ (h : Held). ForSome c.args.joined (HasJoined h)) (sym c.self.view_is) c.requires.joined)
+    (subst (λ (h : Held). ForSome c.args.joined (HasJoined h)) (sym c.self.view_is) c.requires.joined, c.self.invariant.1)

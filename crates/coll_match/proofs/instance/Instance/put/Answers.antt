@@ -2,7 +2,8 @@ use Rattle.std.proofs.Common.{◌∙◌, ◌<◌, length, ap, refl, Some}
 use Rattle.coll_match.specs.declared.instance.Share.{Share}
 use Rattle.coll_sched.specs.Worlds.{put_mail}
 use Rattle.coll_match.specs.Held.{contribution_of, given_in, mail_in, seat_in, slot_of}
-use Rattle.coll_match.proofs.Shares.{low_share, mail_sent, parts_kept, share_joined}
+use Rattle.coll_match.proofs.Shares.{low_share, mail_sent, parts_kept}
+use Rattle.coll_match.proofs.CombinedRows.{known_kept}
 use Rattle.coll_match.proofs.instance.Instance.put.Goals as goal
 
 abbrev after : (c : goal.After-seated) → Share
@@ -32,12 +33,12 @@ returns-clause-mail c =
 
 pub invariant_of-self : goal.invariant_of-self
 invariant_of-self c =
-    share_joined c.self.inside.joined c.self.inside.shares.items c.from.result
+    known_kept c.self.inside.joined c.self.inside.combined.items c.self.inside.shares.items c.from.result
     (record { given = c.index_mut.result.now.given; slot = c.index_mut.result.now.slot; mailbox = c.put.new.self }) c.index_mut.result.now
     (low_share _ _ _ _ c.self.view_is c.requires.member c.from.ensures) c.index_mut.ensures.value refl c.self.invariant
 
 pub invariant_of-self-2 : goal.invariant_of-self-2
 invariant_of-self-2 c =
-    share_joined c.self.inside.joined c.self.inside.shares.items c.from.result
+    known_kept c.self.inside.joined c.self.inside.combined.items c.self.inside.shares.items c.from.result
     (record { given = c.index_mut.result.now.given; slot = c.index_mut.result.now.slot; mailbox = c.put.new.self }) c.index_mut.result.now
     (low_share _ _ _ _ c.self.view_is c.requires.member c.from.ensures) c.index_mut.ensures.value refl c.self.invariant

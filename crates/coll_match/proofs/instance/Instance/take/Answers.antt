@@ -2,7 +2,8 @@ use Rattle.std.proofs.Common.{◌∙◌, ◌<◌, ℕ, List, Option, length, ap,
 use Rattle.coll_match.specs.declared.instance.Share.{Share}
 use Rattle.coll_sched.specs.Worlds.{put_mail}
 use Rattle.coll_match.specs.Held.{contribution_of, given_in, mail_in, seat_in, sent_of, slot_of}
-use Rattle.coll_match.proofs.Shares.{mail_sent, part_read, parts_kept, share_joined}
+use Rattle.coll_match.proofs.Shares.{mail_sent, part_read, parts_kept}
+use Rattle.coll_match.proofs.CombinedRows.{known_kept}
 use Rattle.coll_match.proofs.instance.Instance.take.Goals as goal
 
 abbrev after : (c : goal.After-self-1) → Share
@@ -29,7 +30,7 @@ returns-clause-mail c =
 
 pub invariant_of-self : goal.invariant_of-self
 invariant_of-self c =
-    share_joined c.self.inside.joined c.self.inside.shares.items c.from-sender.result (after c) c.index_mut.result.now
+    known_kept c.self.inside.joined c.self.inside.combined.items c.self.inside.shares.items c.from-sender.result (after c) c.index_mut.result.now
     (low c) c.index_mut.ensures.value refl c.self.invariant
 
 pub returns-clause-taken : goal.returns-clause-taken
