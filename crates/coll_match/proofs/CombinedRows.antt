@@ -1,12 +1,16 @@
 -- Combinations of what neighbouring members gave, and a change of what an instance has.
 use Rattle.std.proofs.Common.{◌≡◌, ◌≢◌, ℕ, zero, suc, ◌+◌, ◌<◌, ◌≤◌, ◌⊎◌, inl, inr, List, [], ◌∷◌, ◌++◌, length, map, set, get_or, Option, Some, None}
-use Rattle.std.proofs.Common.{refl, sym, ap, ◌∙◌, arith}
-use Rattle.std.specs.Prelude.{slice_get, unwrap_or, IfSome}
+use Rattle.std.proofs.Common.{refl, sym, ap, ◌∙◌, arith, rules, Bool, true, false, eqb-true}
+use Rattle.std.specs.Prelude.{◌==◌, ◌&&◌, if◌then◌else◌, is_some, slice_get, unwrap_or, IfSome}
+use Rattle.std.specs.Borrow.{Bor}
 use Rattle.std.specs.List.{range_with_len}
-use Rattle.std.specs.Option.{ForSome}
-use Rattle.std.proofs.lemmas.Bool.{cases_eq, cases_lt}
+use Rattle.std.specs.Option.{ForSome, option_copied}
+use Rattle.std.proofs.lemmas.Bool.{and_parts, cases_eq, cases_lt}
 use Rattle.std.proofs.lemmas.List.{length-map, length-set}
 use Rattle.std.proofs.lemmas.Option.{none-some, same_Some}
+use denote.Enum.Bare.{sameb, same_true}
+use Rattle.coll_kinds.specs.contracts.datatype.Datatype as datatype
+use Rattle.coll_kinds.specs.contracts.operation.Op as operation
 use Rattle.coll_kinds.specs.Puts.{put}
 use Rattle.coll_kinds.proofs.Puts.{put_other}
 use Rattle.coll_ops.specs.Combinations.{combination}
@@ -80,18 +84,16 @@ known_more o rows shares i share bytes low gives none known = (
 
 -- ---- one more combination
 
-pub none_combined : (rows : List CombinedRow) (h : Held) → rows ≡ [] → AreCombined h rows
-none_combined rows h none i row here missing = absurd (none-some row (ap (λ rows. slice_get rows i) (sym none) ∙ here))
-
 last_or : {A : Type 0} (xs : List A) (y : A) (i : ℕ) (r : A) → slice_get (xs ++ y ∷ []) i ≡ Some r → (slice_get xs i ≡ Some r) ⊎ (y ≡ r)
 last_or [] y zero r e = inr (same_Some y r e)
 last_or [] y (suc i) r e = absurd (none-some r e)
 last_or (x ∷ xs) y zero r e = inl e
 last_or (x ∷ xs) y (suc i) r e = last_or xs y i r e
 
-pub combined_push : (rows more : List CombinedRow) (row : CombinedRow) (h : Held) → more ≡ rows ++ row ∷ [] → AreCombined h rows
-    → HasCombined h row.of row.cell → AreCombined h more
-combined_push rows more row h is combined one i at here missing =
+pub combined_push : (rows more : List CombinedRow) (row : CombinedRow) (h : Held) (pushed : Bool)
+    → more ≡ (if pushed then rows ++ row ∷ [] else rows) → AreCombined h rows → HasCombined h row.of row.cell → AreCombined h more
+combined_push rows more row h false is combined one i at here missing = combined i at (ap (λ rows. slice_get rows i) (sym is) ∙ here) missing
+combined_push rows more row h true is combined one i at here missing =
     elim (last_or rows row i at (ap (λ rows. slice_get rows i) (sym is) ∙ here)) [
       | inl before ↦ combined i at before missing
       | inr last ↦ ap (λ (r : CombinedRow). r.cell) (sym last) ∙ (one missing ∙ ap (λ (r : CombinedRow). combined_rows (given_in h) missing r.of) last)
@@ -115,6 +117,11 @@ pub whole_combined : (h : Held) (of : Combination) (bytes : List ℕ) (missing :
 whole_combined h of bytes missing all is other =
     is ∙ ap (combination of.op of.ty) (same_listing (given_in h) missing other of.first of.count all)
 
+-- what is seen of one that has given
+pub given_seen : (o : Option (Bor (List ℕ))) (gave : Option (List ℕ)) → is_some o ≡ true → option_copied o ≡ gave → gave ≢ None
+given_seen None gave some seen none = absurd cc
+given_seen (Some row) gave some seen none = none-some row.now (sym (seen ∙ none))
+
 -- one more of them has given
 pub given_more : (gave : ℕ → Option (List ℕ)) (first k : ℕ) → ((m : ℕ) → first ≤ m → m < k → gave m ≢ None) → gave k ≢ None
     → (m : ℕ) → first ≤ m → m < k + 1 → gave m ≢ None
@@ -125,13 +132,28 @@ given_more gave first k below here m low high none = elim (cases_lt m k) [
 
 -- ---- a cell that is found
 
+pub same_combination : (a b : Combination)
+    → (sameb operation.the_type a.op b.op && (sameb datatype.the_type a.ty b.ty && ((a.first == b.first) && (a.count == b.count)))) ≡ true → a ≡ b
+same_combination a b e =
+    let one = and_parts (sameb operation.the_type a.op b.op)
+    (sameb datatype.the_type a.ty b.ty && ((a.first == b.first) && (a.count == b.count))) e in
+    let two = and_parts (sameb datatype.the_type a.ty b.ty) ((a.first == b.first) && (a.count == b.count)) one.1 in
+    let three = and_parts (a.first == b.first) (a.count == b.count) two.1 in
+    λ z. record {
+      op = same_true operation.the_type (search rules) a.op b.op one.0 z;
+      ty = same_true datatype.the_type (search rules) a.ty b.ty two.0 z;
+      first = eqb-true a.first b.first three.0 z;
+      count = eqb-true a.count b.count three.1 z;
+    }
+
 pub cell_found : (rows : List CombinedRow) (of : Combination) (i : ℕ) (row : CombinedRow) (o : Option (List ℕ)) → slice_get rows i ≡ Some row
     → row.of ≡ of → IfSome o (λ other. other ≡ row.cell) → IfSome o (IsCellOf rows of)
 cell_found rows of i row None here same is = tt
 cell_found rows of i row (Some bytes) here same is = record { i = i; row = row; here = here; of_is = same; cell_is = sym is }
 
-pub found_cell : (h : Held) (rows : List CombinedRow) (of : Combination) (bytes tag : List ℕ) (missing : ℕ → List ℕ) → AreCombined h rows
-    → tag ≡ combined_rows (given_in h) missing of → IsCellOf rows of bytes → bytes ≡ tag
-found_cell h rows of bytes tag missing combined tag_is cell =
+pub found_cell : (h : Held) (rows seen : List CombinedRow) (of : Combination) (bytes tag : List ℕ) (missing : ℕ → List ℕ) → seen ≡ rows
+    → AreCombined h rows → tag ≡ combined_rows (given_in h) missing of → IsCellOf seen of bytes → bytes ≡ tag
+found_cell h rows seen of bytes tag missing all combined tag_is cell =
     sym cell.cell_is
-    ∙ (combined cell.i cell.row cell.here missing ∙ (ap (combined_rows (given_in h) missing) cell.of_is ∙ sym tag_is))
+    ∙ (combined cell.i cell.row (ap (λ rows. slice_get rows cell.i) (sym all) ∙ cell.here) missing
+    ∙ (ap (combined_rows (given_in h) missing) cell.of_is ∙ sym tag_is))

@@ -1,12 +1,12 @@
 -- The shares of an instance's members, and a change of one of them.
-use Rattle.std.proofs.Common.{◌≡◌, ℕ, ◌<◌, ◌≢◌, ◌==◌, Bool, true, false, cond, eqb-true, List, [], ◌∷◌, length, map, set, get_or, refl, sym, ap, ◌∙◌}
+use Rattle.std.proofs.Common.{◌≡◌, ℕ, ◌<◌, ◌≤◌, ◌≢◌, ◌==◌, Bool, true, false, cond, eqb-true, List, [], ◌∷◌, length, map, set, get_or, refl, sym, ap, ◌∙◌}
 use Rattle.std.proofs.Common.{Option, Some, None, zero, suc, replicate, arith}
 use Rattle.std.proofs.lemmas.Bool.{and_from, and_parts}
 use Rattle.std.specs.Prelude.{slice_get, option_map, is_some, is_none, ◌&&◌}
 use Rattle.std.specs.List.{list_all}
 use Rattle.std.specs.Option.{ForSome}
 use Rattle.std.proofs.lemmas.List.{length-map, length-set}
-use Rattle.std.proofs.lemmas.Option.{slice_get-map, slice_get_read, none-some}
+use Rattle.std.proofs.lemmas.Option.{slice_get-map, slice_get_past, slice_get_read, none-some}
 use Rattle.coll_kinds.specs.Puts.{put}
 use Rattle.coll_match.specs.declared.instance.Share.{Share}
 use Rattle.coll_sched.specs.Worlds.{put_mail}
@@ -100,6 +100,23 @@ emptied_all (suc n) (share ∷ shares) e = ap (λ rest. empty_share ∷ rest) (e
 pub low_share : (shares : List Share) (v : Held) (member i : ℕ) → held_of shares ≡ v → member < length v.shares → i ≡ member → i < length shares
 low_share shares v member i e low is = omega (arith, low, is, ap (λ (h : Held). length h.shares) e, length-map shares part_of)
 
+-- no member sent anything from past the shares
+pub mail_past : (shares : List Share) (v : Held) (from i to round : ℕ) → held_of shares ≡ v → i ≡ from → length shares ≤ i
+    → mail_in v ≡ put_mail (mail_in v) from to round None
+mail_past shares v from i to round e is past = λ z a b c. at a b c z
+  where
+    nobody : slice_get v.shares from ≡ None
+    nobody = slice_get_past v.shares from (omega (arith, past, is, ap (λ (h : Held). length h.shares) e, length-map shares part_of))
+
+    by : (here : Bool) (o : Option (List ℕ)) → (here ≡ true → o ≡ None) → o ≡ cond here None o
+    by true o none = none refl
+    by false o none = refl
+
+    at : (a b c : ℕ) → mail_in v a b c ≡ put_mail (mail_in v) from to round None a b c
+    at a b c = by ((a == from) && ((b == to) && (c == round))) (mail_in v a b c) (λ here.
+        ap (λ m. mail_in v m b c) (eqb-true a from (and_parts (a == from) ((b == to) && (c == round)) here).0)
+        ∙ ap (λ part. sent_of part b c) nobody)
+
 -- ---- what all gave, joined
 
 -- while all rows stay, what was joined is what they are joined
@@ -115,9 +132,6 @@ share_joined o shares i share old low is same joined =
     (parts_kept contribution_of shares i share low old is same)
     (length-map (set shares i share) part_of ∙ (length-set shares i share ∙ sym (length-map shares part_of)))
     joined
-
-pub none_joined : (o : Option (List ℕ)) (h : Held) → o ≡ None → ForSome o (HasJoined h)
-none_joined o h none bytes is = absurd (none-some bytes (sym none ∙ is))
 
 -- ---- a member's messages
 

@@ -41,7 +41,7 @@ pub(crate) struct Instance {
     shares: Vec<Share>,
     /// What all members gave, joined in member order, if a member that left had put it together for its outcome.
     joined: Option<Bytes>,
-    /// Combinations of what neighbouring members gave, with cells for their results.
+    /// Combinations of what neighbouring members gave, with cells for their results. Without any it takes no memory.
     combined: Vec<CombinedRow>,
 }
 

@@ -23,7 +23,7 @@ use std::marker::Model;
 /// A member has left an instance where it has given to it and has no slot noted. Every call finds its instance in constant
 /// time on average, however many stand; with the hint that `join` answered it mostly needs no look-up, and no hint changes
 /// an answer. `room` and `leave` are linear in an instance's members besides; `put`, `ready` and `take` in the messages of the
-/// sender that weren't taken yet.
+/// sender that weren't taken yet; `share_combined` in the combinations that have a cell, and in the members of a new one.
 #[derive(Debug, Drop)]
 pub struct Matches {
     alloc: Global,
@@ -74,7 +74,7 @@ impl Matches {
     {
         if !self.stands(key) {
             let instance = self.make(n)?;
-            self.instances.insert(key, instance)?;
+            drop(self.instances.insert(key, instance)?);
         }
         Ok(())
     }

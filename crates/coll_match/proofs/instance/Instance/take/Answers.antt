@@ -2,7 +2,7 @@ use Rattle.std.proofs.Common.{◌∙◌, ◌<◌, ℕ, List, Option, length, ap,
 use Rattle.coll_match.specs.declared.instance.Share.{Share}
 use Rattle.coll_sched.specs.Worlds.{put_mail}
 use Rattle.coll_match.specs.Held.{contribution_of, given_in, mail_in, seat_in, sent_of, slot_of}
-use Rattle.coll_match.proofs.Shares.{mail_sent, part_read, parts_kept}
+use Rattle.coll_match.proofs.Shares.{mail_past, mail_sent, part_read, parts_kept}
 use Rattle.coll_match.proofs.CombinedRows.{known_kept}
 use Rattle.coll_match.proofs.instance.Instance.take.Goals as goal
 
@@ -11,6 +11,11 @@ after c = record { given = c.index_mut.result.now.given; slot = c.index_mut.resu
 
 low : (c : goal.After-self-1) → c.from-sender.result < length c.self.inside.shares.items
 low c = omega (arith, c.if-sender-len.false)
+
+pub returns-then-sender-len-clause-mail : goal.returns-then-sender-len-clause-mail
+returns-then-sender-len-clause-mail c =
+    mail_past c.self.inside.shares.items c.args.self.now c.args.from c.from-sender.result c.args.envelope.to c.args.envelope.round
+    c.self.view_is c.from-sender.ensures (omega (arith, c.if-sender-len.true))
 
 pub returns-clause-given : goal.returns-clause-given
 returns-clause-given c =
