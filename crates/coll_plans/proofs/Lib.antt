@@ -30,7 +30,10 @@ pub mod BruckRegions
 pub mod RecursiveDoublingAllreduce
 pub mod RecursiveDoublingRounds
 pub mod RecursiveDoublingRanges
+pub mod RecursiveDoublingJoins
+pub mod JoinedRows
 pub mod RecursiveDoublingHypercube
+pub mod JoinRows
 -- the chain: long bcasts
 pub mod ChainBcast
 pub mod ChainRounds

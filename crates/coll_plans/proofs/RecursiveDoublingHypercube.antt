@@ -199,7 +199,7 @@ across_back q s h = go (side q s h)
     go (upper_half m x k e) = ap (λ y. across (across y s) s) (sym e) ∙ (ap (λ y. across y s) (across_high m s x k) ∙ (across_low m s x k ∙ e))
 
 -- a block that begins among the corners ends among them
-block_in : (m c t x : ℕ) → m * t + x < c * t → m * t + t ≤ c * t
+pub block_in : (m c t x : ℕ) → m * t + x < c * t → m * t + t ≤ c * t
 block_in m c t x h = go (cases_lt m c)
   where
     go : (m < c) ⊎ (c ≤ m) → m * t + t ≤ c * t

@@ -302,7 +302,8 @@ module _ (f : Family) (op : Op) (ty : Datatype) (b n e d : ℕ) (room : e ≤ 2 
         ∙ ap (combined op ty (read_of (lock_step f given (suc (suc (i + i))) (lowest e (across q (2 ^ i)))) (front b))) (exchange_kept i q h low))
 
     -- after i exchanges a corner holds the rows of its block
-    block_holds : (i m a x : ℕ) → i ≤ d → a ≡ m * 2 ^ i → x < 2 ^ i → a + 2 ^ i ≤ 2 ^ d → held_at (suc (suc (i + i))) (lowest e (a + x)) ≡ part a (a + 2 ^ i)
+    pub block_holds : (i m a x : ℕ) → i ≤ d → a ≡ m * 2 ^ i → x < 2 ^ i → a + 2 ^ i ≤ 2 ^ d
+        → held_at (suc (suc (i + i))) (lowest e (a + x)) ≡ part a (a + 2 ^ i)
     block_holds zero m a x h begins near in1 =
         ap (λ q. held_at 2 (lowest e q)) (let z : a + x ≡ a = omega arith in z)
         ∙ (pair_holds a (omega arith) ∙ ap (part a) (let z : suc a ≡ a + 2 ^ 0 = omega arith in z))

@@ -2,6 +2,8 @@
 pub mod Plans
 -- from whom members hear
 pub mod Hearings
+-- what an allreduce's combinations are of
+pub mod Joins
 -- the families of each kind
 pub mod DisseminationBarrier
 pub mod DirectExchange
@@ -15,5 +17,6 @@ pub mod ChainBcast
 pub mod PlanRows
 pub mod DirectRows
 pub mod RecursiveDoublingRows
+pub mod JoinRows
 pub mod ChainRows
 pub mod BruckRows

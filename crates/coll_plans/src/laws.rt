@@ -2,6 +2,7 @@
 //! above may cite it.
 
 ghost use Rattle.coll_plans.specs.Hearings.{HeardIsHeard};
+ghost use Rattle.coll_plans.specs.JoinRows.{OthersAreNotJoined};
 ghost use Rattle.coll_plans.specs.Plans.{FamiliesServe};
 
 /// The family of every checked signature serves it, for 1 to 64 members: it is lawful, its lock-step result is the
@@ -15,4 +16,10 @@ pub fn families_serve()
 /// the other's schedule.
 pub fn heard_is_heard()
     ensures { HeardIsHeard }
+{}
+
+/// `JoinsRows` isn't true of just any members: of five members' sums the one of member 2 in round 3 isn't that of the rows
+/// of members 0 and 1.
+pub fn others_are_not_joined()
+    ensures { OthersAreNotJoined }
 {}

@@ -7,6 +7,7 @@
 //! |---|---|
 //! | `planning` | `plan`, one member's plan of any collective |
 //! | `planned` | `Plan`, what `plan` answers |
+//! | `joined_rows` | which members' rows a combination of an allreduce joins |
 //! | `laws` | what is known of every plan's family, as a contract |
 //! | `dissemination_barrier` | `barrier` |
 //! | `recursive_doubling_allreduce` | `allreduce` |
@@ -51,6 +52,7 @@ mod direct_row_exchange;
 mod direct_rsblock;
 mod direct_scatter;
 mod dissemination_barrier;
+mod joined_rows;
 pub mod laws;
 mod layout;
 mod planned;
@@ -71,6 +73,7 @@ pub use direct_gather::gather;
 pub use direct_rsblock::rsblock;
 pub use direct_scatter::scatter;
 pub use dissemination_barrier::barrier;
+pub use joined_rows::Neighbours;
 pub use planned::Plan;
 pub use planning::plan;
 pub use prefix_doubling_exscan::exscan;

@@ -1,8 +1,10 @@
-ghost use Rattle.std.specs.Prelude.{◌≡◌, ◌<◌, ◌≤◌, None, IfOk, IsOkUnless};
+ghost use Rattle.std.specs.Prelude.{◌≡◌, ◌+◌, ◌<◌, ◌≤◌, None, IfNone, IfOk, IfSome, IsOkUnless};
 ghost use Rattle.std.specs.Arc.{arc_value};
+ghost use Rattle.coll_kinds.specs.declared.kind.Kind.TheVariants.{Allreduce};
 ghost use Rattle.coll_kinds.specs.Checks.{broken};
 ghost use Rattle.coll_kinds.specs.Lengths.{given_len, got_len};
 
+use crate::joined_rows::{Neighbours, joined_rows};
 use coll_kinds::{Refusal, Signature};
 use coll_sched::Schedule;
 use std::alloc::Global;
@@ -80,6 +82,7 @@ impl SharedPlan {
 }
 
 impl Plan {
+    ghost use Rattle.coll_plans.specs.Joins.{CombinesNothing, JoinsRows};
     ghost use Rattle.coll_plans.specs.Plans.{family, IsPlanned};
 
     // The plan that this is of.
@@ -162,5 +165,16 @@ impl Plan {
         ensures family { IsPlanned self.now.sig self.now.n (family self.now.sig self.now.n) }
     {
         self.shared.schedule()
+    }
+
+    /// The members whose rows the member's combination in that round joins: members who get the same answer combine the same
+    /// rows. None only for a collective that is no allreduce, and for a round in which the member combines nothing. It takes
+    /// constant time.
+    pub fn joined_by(&self, round: usize) -> Option<Neighbours>
+        ensures joins { IfSome result (λ joined. JoinsRows self.now.sig self.now.n self.now.member round joined.first joined.count) }
+        ensures few { IfSome result (λ joined. joined.first + joined.count ≤ 64) }
+        ensures none { self.now.sig.kind ≡ Allreduce → IfNone result (CombinesNothing self.now.sig self.now.n self.now.member round) }
+    {
+        joined_rows(self.sig(), self.n(), self.member(), round)
     }
 }

@@ -57,8 +57,8 @@ impl Hypercube {
         }
     }
 
-    // The lowest member of a corner.
-    fn lowest(self, corner: u8) -> u8
+    /// The lowest member of a corner.
+    pub fn lowest(self, corner: u8) -> u8
         requires { corner ≤ 96 }
         ensures { result ≡ lowest self.extra corner }
     {
