@@ -28,7 +28,9 @@ const ROUNDS: u32 = 4;
 #[derive(Drop)]
 pub(crate) struct Combiner<L: Entries> {
     locked: Mutex<Locked<L>>,
-    records: Vec<PublicationRecord<L>>,
+    /// In cache lines of their own, because waiting threads read them while others write what the
+    /// lock guards.
+    records: CachePadded<Vec<PublicationRecord<L>>>,
     /// How many threads wait for the lock itself.
     wanted: CachePadded<AtomicU64>,
     pub(crate) idlers: Idlers,
@@ -55,7 +57,7 @@ impl<L: Entries> Combiner<L> {
         }
         Ok(Combiner {
             locked: Mutex::new(Locked::new(traced)),
-            records,
+            records: CachePadded::new(records),
             wanted: zero(),
             idlers: Idlers::new(),
             sleepers: zero(),
