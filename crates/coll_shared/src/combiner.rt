@@ -5,6 +5,7 @@ mod held;
 ghost use Rattle.std.specs.Prelude.{◌≡◌, ◌<◌, ℕ, IfErr, IsSome, vec_len};
 ghost use Rattle.std.specs.Sync.Mutex.{mutex_guard_value};
 ghost use Rattle.coll_traced.specs.Ranks.{IsIn};
+ghost use Rattle.crossbeam_utils.specs.Padded.{padded_value};
 ghost use Rattle.coll_shared.specs.Sleepers.{AreCalled, Wakes};
 
 use crate::idlers::Idlers;
@@ -68,7 +69,7 @@ impl<L: Entries> Combiner<L> {
 
     /// Returns the record of a rank.
     pub(crate) fn record(&self, rank: u8) -> Option<&PublicationRecord<L>>
-        ensures { rank < vec_len self.now.records → IsSome result }
+        ensures { rank < vec_len (padded_value self.now.records) → IsSome result }
     {
         self.records.get(usize::from(rank))
     }
@@ -213,7 +214,7 @@ impl<L: Entries> Combiner<L> {
     fn tell_stall(&self, held: &mut Held<'_, L>)
         ensures woken { Wakes (mutex_guard_value held.old.locked).parked held.old.wake (mutex_guard_value held.new.locked).parked held.new.wake }
         ensures called { let then = mutex_guard_value held.new.locked in
-            AreCalled (vec_len self.now.records) (mutex_guard_value held.old.locked).traced then.traced then.parked }
+            AreCalled (vec_len (padded_value self.now.records)) (mutex_guard_value held.old.locked).traced then.traced then.parked }
     {
         if held.locked.tell_stall() {
             self.call_parked(held);
@@ -224,7 +225,7 @@ impl<L: Entries> Combiner<L> {
     fn call_parked(&self, held: &mut Held<'_, L>)
         ensures traced { (mutex_guard_value held.new.locked).traced ≡ (mutex_guard_value held.old.locked).traced }
         ensures woken { Wakes (mutex_guard_value held.old.locked).parked held.old.wake (mutex_guard_value held.new.locked).parked held.new.wake }
-        ensures called { (rank : ℕ) → rank < vec_len self.now.records → rank < 64 → IsIn (mutex_guard_value held.new.locked).parked rank → ⊥ }
+        ensures called { (rank : ℕ) → rank < vec_len (padded_value self.now.records) → rank < 64 → IsIn (mutex_guard_value held.new.locked).parked rank → ⊥ }
     {
         let parked = held.locked.parked;
         for rank in 0..64u8 {
@@ -239,7 +240,7 @@ impl<L: Entries> Combiner<L> {
     fn call(&self, held: &mut Held<'_, L>, rank: u8)
         ensures traced { (mutex_guard_value held.new.locked).traced ≡ (mutex_guard_value held.old.locked).traced }
         ensures woken { rank < 64 → Wakes (mutex_guard_value held.old.locked).parked held.old.wake (mutex_guard_value held.new.locked).parked held.new.wake }
-        ensures awake { rank < vec_len self.now.records → rank < 64 → IsIn (mutex_guard_value held.new.locked).parked rank → ⊥ }
+        ensures awake { rank < vec_len (padded_value self.now.records) → rank < 64 → IsIn (mutex_guard_value held.new.locked).parked rank → ⊥ }
     {
         if let Some(record) = self.record(rank) {
             record.call();
