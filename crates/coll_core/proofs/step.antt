@@ -8,3 +8,4 @@ pub mod Advance
 pub mod Wake
 pub mod Send
 pub mod Combine
+pub mod SharedRows

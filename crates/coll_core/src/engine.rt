@@ -27,7 +27,6 @@ use crate::about::About;
 use crate::config::Config;
 use crate::phase::Phase;
 use crate::request::Request;
-use crate::shared_result::InstanceResults;
 use coll_arena::laws::is_sound;
 use coll_arena::{Arena, ListName, Ticket};
 use coll_bytes::Blocks;
@@ -48,8 +47,6 @@ pub struct Core {
     arena: Arena<Request>,
     queues: Queues,
     matches: Matches,
-    /// Long results that other members of the instance may share. No contract sees them.
-    results: Option<Box<InstanceResults>>,
     /// Memory for the results of long combinations, and for long buffers.
     blocks: Blocks,
 }
@@ -91,7 +88,6 @@ impl Core {
             arena,
             queues,
             matches,
-            results: None,
             blocks,
         })
     }

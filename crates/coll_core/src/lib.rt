@@ -16,8 +16,6 @@
 //! | `request` | `Request`: what the engine keeps of a live request |
 //! | `sent` | `Sent`: the path of a message |
 //! | `shared_result` | long results that several members need |
-//! | `result_cell` | `ResultCell`: where the result of a handed-out combination comes back |
-//! | `expected` | the rule for what may lie in a result cell |
 //! | `combined` | the combination of two operands, as `Bytes` |
 //! | `work` | `Work`, `DoneWork`: a combination that is computed outside the engine |
 //! | `short_work` | `ShortWork`, `DoneShortWork`: one of up to eight bytes, by value |
@@ -42,14 +40,12 @@ mod communicators;
 mod config;
 mod contribution;
 mod engine;
-mod expected;
 pub mod laws;
 mod long;
 mod offer;
 mod outcome;
 mod phase;
 mod request;
-mod result_cell;
 mod row;
 mod sent;
 mod shared_result;

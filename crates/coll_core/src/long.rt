@@ -7,9 +7,9 @@ ghost use Rattle.coll_ops.specs.Combinations.{combined as combination_of};
 ghost use Rattle.coll_ops.specs.Values.{all_rows};
 ghost use Rattle.coll_sched.specs.Regions.{Inside, read_of, written};
 
-use crate::result_cell::ResultCell;
 use coll_bytes::{Bytes, Segments, Shell};
 use coll_kinds::{Datatype, Op};
+use coll_match::ResultCell;
 use coll_sched::Region;
 use std::alloc::{AllocError, Global};
 

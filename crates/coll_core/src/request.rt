@@ -2,27 +2,26 @@ ghost use Rattle.std.specs.Prelude.{◌≡◌, ◌≢◌, ◌≤◌, ◌<◌, �
 ghost use Rattle.std.specs.Prelude.{IfErr, [], is_some};
 ghost use Rattle.std.specs.Option.{ForSome};
 ghost use Rattle.coll_arena.specs.ListNames.{number_of};
-ghost use Rattle.coll_match.specs.Instances.{mail};
+ghost use Rattle.coll_match.specs.Instances.{given, mail};
 ghost use Rattle.coll_sched.specs.Actions.{Fits, IsCombine};
 ghost use Rattle.coll_sched.specs.Points.{IsPoint, actions_of};
 ghost use Rattle.coll_sched.specs.Regions.{Inside, read_of};
 ghost use Rattle.coll_refinement.specs.Requests.{advanced, key};
 ghost use Rattle.coll_refinement.specs.Sound.{Stands};
 ghost use Rattle.coll_core.specs.Buffers.{HasRoom};
-ghost use Rattle.coll_core.specs.Requests.{PassesEnds, CanReceive, IsListOf, next_of, schedule, shown};
+ghost use Rattle.coll_core.specs.Requests.{PassesEnds, CanReceive, IsListOf, ReadsRows, next_of, schedule, shown};
 ghost use Rattle.coll_core.specs.Advancing.{IsSent};
 ghost use Rattle.coll_core.specs.Works.{Combined, IsOwnResult, IsShort, Piece, StandsAt, result_of};
 
 use crate::buffer::Buffer;
-use crate::result_cell::ResultCell;
 use crate::sent::Sent;
-use crate::shared_result::{InstanceResults, LONG, share};
+use crate::shared_result::{LONG, SharedResult};
 use crate::short_work::{DoneShortWork, ShortWork};
 use crate::work::{DoneWork, Work};
 use coll_arena::{ListName, Ticket};
 use coll_bytes::{Blocks, Bytes};
-use coll_kinds::{Datatype, Kind, Op, Refusal};
-use coll_match::{Key, Matches};
+use coll_kinds::{Datatype, Op, Refusal};
+use coll_match::{Combination, Key, Matches, ResultCell};
 use coll_plans::Plan;
 use coll_sched::Action;
 use std::alloc::Global;
@@ -137,13 +136,15 @@ impl Request {
         &mut self,
         alloc: Global,
         ticket: Ticket,
-        results: &mut Option<Box<InstanceResults>>,
+        matches: &mut Matches,
         blocks: &Blocks,
     ) -> Result<Work, Refusal>
         requires combine { IfSome (next_of (shown self.old)) IsCombine }
         requires some { next_of (shown self.old) ≢ None }
+        requires rows { ReadsRows (given matches.old (key (shown self.old))) (shown self.old) }
         requires sized { length self.old.buffer ≡ (schedule (shown self.old)).size }
         ensures same { self.new ≡ self.old }
+        ensures matches { matches.new ≡ matches.old }
         ensures work { IfOk result (λ work. StandsAt (shown self.old) work) }
         ensures ticket { IfOk result (λ work. work.ticket ≡ ticket) }
         ensures refusal { IsOkUnless result Refusal.NoMemory }
@@ -162,23 +163,42 @@ impl Request {
         };
         let first = self.buffer.part(alloc, left)?;
         let second = self.buffer.part(alloc, right)?;
-        let shared = if left.len >= LONG && self.plan.sig().kind == Kind::Allreduce {
-            share(results, alloc, self.key(), self.round, (&first, &second))
-        } else {
-            None
-        };
         let blocks = if left.len >= LONG {
             blocks.share()
         } else {
             None
         };
         let mut work = Work::new(
-            alloc, ticket, self.round, self.index, op, ty, first, second, shared, blocks,
+            alloc, ticket, self.round, self.index, op, ty, first, second, blocks,
         )?;
         if left.len >= LONG {
+            self.share_result(matches, &mut work);
             self.buffer.await_result(alloc, &mut work, left, right);
         }
         Ok(work)
+    }
+
+    /// Lets other members of an allreduce that combine the same rows share the result of `work`, if
+    /// there is memory for a cell.
+    fn share_result(&self, matches: &mut Matches, work: &mut Work)
+        requires rows { ReadsRows (given matches.old (key (shown self.now))) (shown self.now) }
+        requires stands { StandsAt (shown self.now) work.old }
+        ensures work { work.new ≡ work.old }
+        ensures matches { matches.new ≡ matches.old }
+    {
+        let Some(joined) = self.plan.joined_by(self.round) else {
+            return;
+        };
+        let of = Combination {
+            op: work.op(),
+            ty: work.ty(),
+            first: joined.first,
+            count: joined.count,
+        };
+        let shared = matches.share_combined(self.key(), self.hint, of, &work.tag());
+        if let Some((cell, is_first)) = shared {
+            work.share(SharedResult { cell, is_first });
+        }
     }
 
     /// Returns the next combination with operands of up to eight bytes. Takes no memory.

@@ -2,11 +2,11 @@ ghost use Rattle.std.specs.Prelude.{◌≡◌, IfOk, IfErr, IfSome, IsOkUnless};
 ghost use Rattle.coll_core.specs.Works.{IsPiece, result_of};
 
 use crate::combined::combined;
-use crate::result_cell::ResultCell;
 use crate::shared_result::SharedResult;
 use boxcar::tag::{Names, Tag};
 use coll_bytes::{Bytes, Home};
 use coll_kinds::{Datatype, Op, Refusal, Refused, Ticket};
+use coll_match::ResultCell;
 use std::alloc::Global;
 use std::marker::Model;
 
@@ -29,7 +29,7 @@ struct Operands {
     alloc: Global,
     left: Bytes,
     right: Bytes,
-    /// Where other members that combine the same operands look for the result.
+    /// Where members that combine the same rows look for the result.
     shared: Option<SharedResult>,
     /// The cell in which the engine finds the result.
     cell: Option<ResultCell>,
@@ -47,7 +47,7 @@ impl Model for Work {
 
     ghost invariant = { λ w. let piece : Piece =
         record { ticket = w.ticket; round = w.round; index = w.index; op = w.op; ty = w.ty; left = w.operands.value.left; right = w.operands.value.right } in
-        IsPiece piece × IfSome w.operands.value.cell (λ cell. cell ≡ result_of piece) };
+        IsPiece piece × IfSome w.operands.value.cell (λ cell. cell ≡ result_of piece) × IfSome w.operands.value.shared (λ shared. shared.cell ≡ result_of piece) };
 }
 
 /// Says what the result of a work is, for the cell's rule.
@@ -86,7 +86,6 @@ impl Work {
         ty: Datatype,
         left: Bytes,
         right: Bytes,
-        shared: Option<SharedResult>,
         blocks: Option<Home>,
     ) -> Result<Work, Refusal>
         requires { IsPiece (record { ticket = ticket; round = round; index = index; op = op; ty = ty; left = left; right = right }) }
@@ -97,7 +96,7 @@ impl Work {
             alloc,
             left,
             right,
-            shared,
+            shared: None,
             cell: None,
             blocks,
         };
@@ -161,12 +160,27 @@ impl Work {
         self.operands.right.as_slice()
     }
 
+    /// Returns the tag of the result's bytes. Does nothing at run time.
+    pub(crate) fn tag(&self) -> Tag
+        ensures { result.numbers ≡ result_of self.now }
+    {
+        Tag::of::<Work, ItsResult>(self)
+    }
+
+    /// Lets members that combine the same rows share the result.
+    pub(crate) fn share(&mut self, shared: SharedResult)
+        requires { shared.cell ≡ result_of self.old }
+        ensures { self.new ≡ self.old }
+    {
+        self.operands.shared = Some(shared);
+    }
+
     /// Makes a cell for the result, which the work and the engine own. None if memory is refused.
     pub(crate) fn make_cell(&mut self, alloc: Global) -> Option<ResultCell>
         ensures same { self.new ≡ self.old }
         ensures cell { IfSome result (λ cell. cell ≡ result_of self.old) }
     {
-        let (own, other) = ResultCell::pair(alloc, &Tag::of::<Work, ItsResult>(self))?;
+        let (own, other) = ResultCell::pair(alloc, &self.tag())?;
         self.operands.cell = Some(other);
         Some(own)
     }
@@ -221,8 +235,8 @@ impl Work {
         } = self;
     }
 
-    /// Takes the result of another member that combines the same operands, else computes it for
-    /// others too. The only refusal is NoMemory.
+    /// Takes the result of another member that combines the same rows, else computes it for others
+    /// too. The only refusal is NoMemory.
     #[inline(always)]
     fn found_or_combined(&self) -> Result<Bytes, Refusal>
         ensures ok { IfOk result (λ bytes. bytes ≡ result_of self.now) }
@@ -234,11 +248,11 @@ impl Work {
         let Some(shared) = &operands.shared else {
             return combined(alloc, self.op, self.ty, left, right, blocks);
         };
-        if let Some(bytes) = shared.find(self.op, self.ty, left.as_slice(), right.as_slice()) {
+        if let Some(bytes) = shared.find(left.len() as usize) {
             return Ok(bytes);
         }
         let bytes = combined(alloc, self.op, self.ty, left, right, blocks)?;
-        shared.tell(alloc, self.op, self.ty, (left, right), &bytes);
+        shared.publish(&bytes);
         Ok(bytes)
     }
 }

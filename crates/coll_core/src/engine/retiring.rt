@@ -20,7 +20,6 @@ ghost use Rattle.coll_core.specs.Requests.{schedule, shown};
 use crate::engine::Core;
 use crate::outcome::Outcome;
 use crate::request::Request;
-use crate::shared_result::forget;
 use coll_arena::laws::is_sound;
 use coll_arena::{Arena, ListName, Ticket};
 use coll_bytes::{Blocks, Bytes};
@@ -93,8 +92,7 @@ impl Core {
         let (bytes, room) = give_up(&mut self.arena, self.alloc, ticket, known, blocks);
         let other = second_owner(&bytes, room, blocks);
         let joined = joined_by(kind, &bytes);
-        let is_over = self.matches.leave(key, hint, member, joined);
-        forget(&mut self.results, key, is_over);
+        self.matches.leave(key, hint, member, joined);
         let outcome = Outcome {
             rank,
             comm: key.comm,

@@ -245,7 +245,7 @@ impl Core {
         let Ok(request) = self.arena.get_mut(ticket) else {
             unreachable!()
         };
-        let work = request.work(self.alloc, ticket, &mut self.results, &self.blocks)?;
+        let work = request.work(self.alloc, ticket, &mut self.matches, &self.blocks)?;
         let Ok(()) = self.arena.shift(ticket, ListName::Running) else {
             unreachable!()
         };

@@ -33,8 +33,8 @@ give_up-bytes-requires-clause-known c =
     known_outcome _ c.args.rank c.args.ticket c.in_ok-request.request.now c.self.invariant owns on
     c.known_outcome-known.result c.known_outcome-known.ensures
 
-pub leave-is_over-requires-clause-joined : goal.leave-is_over-requires-clause-joined
-leave-is_over-requires-clause-joined c =
+pub leave-requires-clause-joined : goal.leave-requires-clause-joined
+leave-requires-clause-joined c =
     let owns = owned _ c.args.self.now c.args.rank c.args.ticket c.in_ok-request.request.now c.self.view_is
     c.in_ok-request.ensures.refused c.in_ok-request.ensures.named c.in_ok-request.ensures.found in
     let on = on_done c.self.inside.arena c.args.ticket (6 + 3 * c.in_ok-request.request.now.comm) c.if-not-is_on.ensures in
@@ -42,8 +42,8 @@ leave-is_over-requires-clause-joined c =
     c.key-key.result c.sig.result.now.kind c.give_up-bytes.result.0 c.joined_by-joined.result c.key-key.ensures
     (ap (λ (s : Signature). s.kind) c.sig.ensures.sig) c.give_up-bytes.ensures.bytes c.joined_by-joined.ensures.kind c.joined_by-joined.ensures.same
 
-pub leave-is_over-requires-clause-seated : goal.leave-is_over-requires-clause-seated
-leave-is_over-requires-clause-seated c =
+pub leave-requires-clause-seated : goal.leave-requires-clause-seated
+leave-requires-clause-seated c =
     let owns = owned _ c.args.self.now c.args.rank c.args.ticket c.in_ok-request.request.now c.self.view_is
     c.in_ok-request.ensures.refused c.in_ok-request.ensures.named c.in_ok-request.ensures.found in
     let on = on_done c.self.inside.arena c.args.ticket (6 + 3 * c.in_ok-request.request.now.comm) c.if-not-is_on.ensures in
@@ -55,16 +55,16 @@ invariant_of-self c =
     let owns = owned _ c.args.self.now c.args.rank c.args.ticket c.in_ok-request.request.now c.self.view_is
     c.in_ok-request.ensures.refused c.in_ok-request.ensures.named c.in_ok-request.ensures.found in
     let on = on_done c.self.inside.arena c.args.ticket (6 + 3 * c.in_ok-request.request.now.comm) c.if-not-is_on.ensures in
-    kept _ c.give_up-bytes.new.arena c.leave-is_over.new.self c.args.ticket c.args.rank c.in_ok-request.request.now
-    c.give_up-bytes.result.0 c.leave-is_over.result
+    kept _ c.give_up-bytes.new.arena c.leave.new.self c.args.ticket c.args.rank c.in_ok-request.request.now
+    c.give_up-bytes.result.0 c.leave.result
     c.key-key.result c.member-member.result c.self.invariant owns on
     c.give_up-bytes.ensures.bytes c.give_up-bytes.ensures.rests c.key-key.ensures c.member-member.ensures.member
     (record {
-      last_is = c.leave-is_over.ensures.last;
-      members = (ap (λ (s : LookUps). s.members) c.leave-is_over.ensures.left);
-      given = (ap (λ (s : LookUps). s.given) c.leave-is_over.ensures.left);
-      seats = (ap (λ (s : LookUps). s.seats) c.leave-is_over.ensures.left);
-      mail = (ap (λ (s : LookUps). s.mail) c.leave-is_over.ensures.left);
+      last_is = c.leave.ensures.last;
+      members = (ap (λ (s : LookUps). s.members) c.leave.ensures.left);
+      given = (ap (λ (s : LookUps). s.given) c.leave.ensures.left);
+      seats = (ap (λ (s : LookUps). s.seats) c.leave.ensures.left);
+      mail = (ap (λ (s : LookUps). s.mail) c.leave.ensures.left);
     })
 
 pub returns-clause-completes : goal.returns-clause-completes
@@ -72,16 +72,16 @@ returns-clause-completes c =
     let owns = owned _ c.args.self.now c.args.rank c.args.ticket c.in_ok-request.request.now c.self.view_is
     c.in_ok-request.ensures.refused c.in_ok-request.ensures.named c.in_ok-request.ensures.found in
     let on = on_done c.self.inside.arena c.args.ticket (6 + 3 * c.in_ok-request.request.now.comm) c.if-not-is_on.ensures in
-    completes _ c.give_up-bytes.new.arena c.leave-is_over.new.self c.args.ticket c.args.rank c.in_ok-request.request.now
-    c.give_up-bytes.result.0 c.leave-is_over.result
+    completes _ c.give_up-bytes.new.arena c.leave.new.self c.args.ticket c.args.rank c.in_ok-request.request.now
+    c.give_up-bytes.result.0 c.leave.result
     c.key-key.result c.member-member.result c.self.invariant owns on
     c.give_up-bytes.ensures.bytes c.give_up-bytes.ensures.rests c.key-key.ensures c.member-member.ensures.member
     (record {
-      last_is = c.leave-is_over.ensures.last;
-      members = (ap (λ (s : LookUps). s.members) c.leave-is_over.ensures.left);
-      given = (ap (λ (s : LookUps). s.given) c.leave-is_over.ensures.left);
-      seats = (ap (λ (s : LookUps). s.seats) c.leave-is_over.ensures.left);
-      mail = (ap (λ (s : LookUps). s.mail) c.leave-is_over.ensures.left);
+      last_is = c.leave.ensures.last;
+      members = (ap (λ (s : LookUps). s.members) c.leave.ensures.left);
+      given = (ap (λ (s : LookUps). s.given) c.leave.ensures.left);
+      seats = (ap (λ (s : LookUps). s.seats) c.leave.ensures.left);
+      mail = (ap (λ (s : LookUps). s.mail) c.leave.ensures.left);
     })
     c.args.self.now c.self.view_is
 
@@ -90,15 +90,15 @@ returns-clause-progress c =
     let owns = owned _ c.args.self.now c.args.rank c.args.ticket c.in_ok-request.request.now c.self.view_is
     c.in_ok-request.ensures.refused c.in_ok-request.ensures.named c.in_ok-request.ensures.found in
     let on = on_done c.self.inside.arena c.args.ticket (6 + 3 * c.in_ok-request.request.now.comm) c.if-not-is_on.ensures in
-    retires_alone _ c.give_up-bytes.new.arena c.leave-is_over.new.self c.args.ticket c.args.rank c.in_ok-request.request.now
-    c.give_up-bytes.result.0 c.leave-is_over.result
+    retires_alone _ c.give_up-bytes.new.arena c.leave.new.self c.args.ticket c.args.rank c.in_ok-request.request.now
+    c.give_up-bytes.result.0 c.leave.result
     c.key-key.result c.member-member.result c.self.invariant owns on
     c.give_up-bytes.ensures.bytes c.give_up-bytes.ensures.rests c.key-key.ensures c.member-member.ensures.member
     (record {
-      last_is = c.leave-is_over.ensures.last;
-      members = (ap (λ (s : LookUps). s.members) c.leave-is_over.ensures.left);
-      given = (ap (λ (s : LookUps). s.given) c.leave-is_over.ensures.left);
-      seats = (ap (λ (s : LookUps). s.seats) c.leave-is_over.ensures.left);
-      mail = (ap (λ (s : LookUps). s.mail) c.leave-is_over.ensures.left);
+      last_is = c.leave.ensures.last;
+      members = (ap (λ (s : LookUps). s.members) c.leave.ensures.left);
+      given = (ap (λ (s : LookUps). s.given) c.leave.ensures.left);
+      seats = (ap (λ (s : LookUps). s.seats) c.leave.ensures.left);
+      mail = (ap (λ (s : LookUps). s.mail) c.leave.ensures.left);
     })
     c.args.self.now c.self.view_is c.is_sound.ensures c.give_up-bytes.ensures.lists
