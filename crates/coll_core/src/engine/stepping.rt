@@ -1,6 +1,6 @@
 //! Progress: one action of one request at a time.
 
-ghost use Rattle.std.specs.Prelude.{◌≡◌, ◌<◌, ◌≤◌, ◌+◌, ◌↔◌, [], ℕ, true, IfOk, IfSome, IsOkUnless, IsTrue, None, Ok, OnErr, OnOk, Some, is_some};
+ghost use Rattle.std.specs.Prelude.{◌≡◌, ◌<◌, ◌≤◌, ◌+◌, ◌^◌, ◌↔◌, [], ℕ, true, IfOk, IfSome, IsOkUnless, IsTrue, None, Ok, OnErr, OnOk, Some, is_some};
 ghost use Rattle.coll_lists.specs.Layouts.{sequence};
 ghost use Rattle.coll_lists.specs.Neighbours.{first_in};
 ghost use Rattle.coll_match.specs.Instances.{seats};
