@@ -171,10 +171,11 @@ impl Request {
         let mut work = Work::new(
             alloc, ticket, self.round, self.index, op, ty, first, second, blocks,
         )?;
-        if left.len >= LONG {
-            self.share_result(matches, &mut work);
-            self.buffer.await_result(alloc, &mut work, left, right);
+        if left.len < LONG {
+            return Ok(work);
         }
+        self.share_result(matches, &mut work);
+        self.buffer.await_result(alloc, &mut work, left, right);
         Ok(work)
     }
 
