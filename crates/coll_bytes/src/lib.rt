@@ -6,6 +6,7 @@
 //! | `bytes` | `Bytes`: up to `FEW` bytes in place, or a part of a block on the heap |
 //! | `blocks` | `Blocks`: vectors that are used again; `Block`, of several owners |
 //! | `shelf` | `Shelf`: the vectors that nobody uses now |
+//! | `demand` | `Demand`: which vectors are to be prepared |
 //! | `shell` | `Shell`: the count of owners of a block whose bytes are put together later |
 //! | `segments` | `Segments`: a schedule's buffer |
 //! | `segment` | one write into a buffer, and how a region lies beside it |
@@ -15,6 +16,7 @@
 mod blocks;
 mod bytes;
 mod composed;
+mod demand;
 mod segment;
 mod segments;
 mod shelf;

@@ -2,7 +2,9 @@ ghost use Rattle.std.specs.Prelude.{◌≡◌, ◌+◌, ◌<◌, ◌≤◌, leng
 ghost use Rattle.std.specs.List.{sum_by};
 ghost use Rattle.coll_bytes.specs.declared.shelf.TheConstants.{MOST_BYTES};
 
+use crate::demand::{Demand, is_prepared};
 use counted_slot::{Counted, FREE, Fits, PRESENT, TAKEN};
+use crossbeam_utils::CachePadded;
 use std::alloc::{AllocError, Global};
 use std::hint::spin_loop;
 use std::sync::atomic::{AtomicBool, Ordering};
@@ -15,6 +17,9 @@ const MOST_BYTES: usize = 134_217_728;
 
 /// Shorter vectors aren't kept, because the allocator has these at hand.
 const LEAST_BYTES: usize = 4_096;
+
+/// How many bytes of a vector are written at a time: four pages, which take some ten microseconds.
+const PIECE: usize = 16_384;
 
 /// A thread that finds the vectors away looks this often before it goes on without them.
 const TRIES: usize = 16;
@@ -34,24 +39,43 @@ impl Fits for Kept {
     ghost fits = { λ _ _. Unit {0} };
 }
 
-// Returns the index of the last vector of that length.
-fn place_of(rows: &[Vec<u8>], len: usize) -> Option<usize>
+// Returns the index of the vector of that length that is written most, of those that have `least`
+// to `most` bytes. Of several it is the last.
+fn place_of(rows: &[Vec<u8>], len: usize, least: usize, most: usize) -> Option<usize>
     ensures { IfSome result (λ at. at < length rows.now) }
 {
+    let mut place = None;
+    let mut bound = least;
     let mut at = rows.len();
     while at > 0 {
         at -= 1;
-        if rows[at].capacity() == len {
-            return Some(at);
+        let written = rows[at].len();
+        if rows[at].capacity() == len && (bound..=most).contains(&written) {
+            place = Some(at);
+            if written == most {
+                return place;
+            }
+            bound = written + 1;
         }
     }
-    None
+    place
+}
+
+// Counts the vectors of that length that are written to their ends.
+fn count_written(rows: &[Vec<u8>], len: usize) -> usize {
+    let mut count = 0;
+    for row in rows {
+        if row.capacity() == len && row.len() == len {
+            count += 1;
+        }
+    }
+    count
 }
 
 impl Kept {
-    // Takes out the vector of that length that came last.
-    fn take(&mut self, len: usize) -> Option<Vec<u8>> {
-        let at = place_of(&self.rows, len)?;
+    // Takes out the vector of that length that is written most, with `least` to `most` bytes.
+    fn take(&mut self, len: usize, least: usize, most: usize) -> Option<Vec<u8>> {
+        let at = place_of(&self.rows, len, least, most)?;
         Some(self.remove(at))
     }
 
@@ -103,6 +127,9 @@ pub(crate) struct Shelf {
     /// None while a thread has the vectors, and after the end.
     kept: Counted<Option<Kept>>,
     is_closed: AtomicBool,
+    alloc: Global,
+    /// On a cache line of its own, because the threads that wait read it while others take vectors.
+    demand: CachePadded<Demand>,
 }
 
 // Tells whether vectors of that length are kept.
@@ -122,18 +149,76 @@ impl Shelf {
         Ok(Shelf {
             kept,
             is_closed: AtomicBool::new(false),
+            alloc,
+            demand: CachePadded::new(Demand::none()),
         })
     }
 
-    /// Takes out the vector of that length that came last.
-    pub(crate) fn take(&self, len: usize) -> Option<Vec<u8>> {
+    /// Takes out the vector of that length that is written most, with `least` to `most` bytes.
+    pub(crate) fn take(&self, len: usize, least: usize, most: usize) -> Option<Vec<u8>> {
         if !is_kept(len) {
             return None;
         }
         let mut kept = self.lend()?;
-        let row = kept.take(len);
+        let row = kept.take(len, least, most);
         self.give_back(kept);
         row
+    }
+
+    /// The same for a vector that is to be written to its end, preferably one that was written to its
+    /// end before. If few such ones are left, others are to be prepared.
+    pub(crate) fn take_written(&self, len: usize, least: usize) -> Option<Vec<u8>> {
+        if !is_prepared(len) {
+            return self.take(len, least, len);
+        }
+        let mut row = self.take(len, len, len);
+        if row.is_none() {
+            self.demand.hold(len);
+            row = self.take(len, least, len);
+        }
+        self.demand.note(len, self.count_written(len));
+        row
+    }
+
+    // Counts the vectors of that length that are written to their ends. Counts none if other threads
+    // have the vectors.
+    fn count_written(&self, len: usize) -> u64 {
+        let Some(kept) = self.lend() else {
+            return 0;
+        };
+        let written = count_written(&kept.rows, len);
+        self.give_back(kept);
+        written as u64
+    }
+
+    /// Writes the next bytes of a vector that is lacking. Returns whether there was one.
+    #[inline(always)]
+    pub(crate) fn prepare(&self) -> bool {
+        match self.demand.claim() {
+            Some(len) => self.prepare_one(len),
+            None => false,
+        }
+    }
+
+    #[inline(never)]
+    fn prepare_one(&self, len: usize) -> bool {
+        let Some(mut row) = self.begun(len) else {
+            self.demand.give_back(true);
+            return false;
+        };
+        let end = len.min(row.len().saturating_add(PIECE));
+        let is_written = row.resize(end, 0).is_ok();
+        self.put(row);
+        self.demand.give_back(end < len);
+        is_written
+    }
+
+    // Takes out the vector of that length of which most is written, but not all, or makes one.
+    fn begun(&self, len: usize) -> Option<Vec<u8>> {
+        match self.take(len, 1, len.saturating_sub(1)) {
+            Some(row) => Some(row),
+            None => Vec::with_capacity(self.alloc, len).ok(),
+        }
     }
 
     /// Adds a vector, or frees it.

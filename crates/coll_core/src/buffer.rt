@@ -155,6 +155,21 @@ fn known_or_whole(
     segments.part(alloc, region).ok()
 }
 
+/// Returns memory for an outcome of so many bytes: a vector that was written before, if one is kept,
+/// because it has pages. Then the buffer's own goes back to `blocks`. Takes no memory.
+fn written_room(own: Vec<u8>, len: usize, blocks: &Blocks) -> Vec<u8>
+    requires { IsRoom own len }
+    ensures { IsRoom result len }
+{
+    match blocks.take_written(len, own.capacity()) {
+        Some(room) => {
+            blocks.keep(own);
+            room
+        }
+        None => own,
+    }
+}
+
 impl Buffer {
     /// Returns a buffer without bytes. Takes no memory.
     pub fn empty(alloc: Global) -> Buffer
@@ -331,7 +346,10 @@ impl Buffer {
                         blocks.keep(own);
                         (bytes, spare)
                     }
-                    None => (segments.into_part(region, own, shell), spare),
+                    None => {
+                        let room = written_room(own, region.len as usize, blocks);
+                        (segments.into_part(region, room, shell), spare)
+                    }
                 }
             }
         }

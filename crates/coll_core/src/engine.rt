@@ -29,7 +29,7 @@ use crate::phase::Phase;
 use crate::request::Request;
 use coll_arena::laws::is_sound;
 use coll_arena::{Arena, ListName, Ticket};
-use coll_bytes::Blocks;
+use coll_bytes::{Blocks, Home};
 use coll_kinds::Refusal;
 use coll_match::Matches;
 use coll_queues::Queues;
@@ -151,6 +151,11 @@ impl Core {
     {
         is_sound(&self.arena);
         self.arena.lent()
+    }
+
+    /// Returns where the memory of long rows comes from. None if that has too many owners.
+    pub fn home(&self) -> Option<Home> {
+        self.blocks.share()
     }
 
     /// Returns the number of ready requests.

@@ -11,6 +11,7 @@ ghost use Rattle.coll_shared.specs.Sleepers.{AreCalled, Wakes};
 use crate::idlers::Idlers;
 use crate::locked::{Locked, Successor};
 use crate::record::PublicationRecord;
+use coll_bytes::Home;
 use coll_core::{DoneShortWork, ShortWork};
 use coll_kinds::Refusal;
 use coll_spin::Processors;
@@ -41,6 +42,8 @@ pub(crate) struct Combiner<L: Entries> {
     /// have ended.
     departed: CachePadded<AtomicU64>,
     pub(crate) processors: CachePadded<Processors>,
+    /// Where rows come from, which waiting ports prepare.
+    home: Option<Home>,
 }
 
 fn zero() -> CachePadded<AtomicU64> {
@@ -56,6 +59,7 @@ impl<L: Entries> Combiner<L> {
         for _rank in 0..ranks {
             records.push(PublicationRecord::new())?;
         }
+        let home = traced.home();
         Ok(Combiner {
             locked: Mutex::new(Locked::new(traced)),
             records: CachePadded::new(records),
@@ -64,7 +68,17 @@ impl<L: Entries> Combiner<L> {
             sleepers: zero(),
             departed: zero(),
             processors: CachePadded::new(Processors::new()),
+            home,
         })
+    }
+
+    /// Prepares some memory for the next long rows. Returns false if there is none to prepare.
+    #[inline(always)]
+    pub(crate) fn prepare(&self) -> bool {
+        match &self.home {
+            Some(home) => home.prepare(),
+            None => false,
+        }
     }
 
     /// Returns the record of a rank.

@@ -41,7 +41,11 @@ impl<L: Entries> Combiner<L> {
                     return Some(held);
                 }
             }
-            self.processors.pause(rt, record.history(), policy, spin);
+            if self.prepare() {
+                policy.worked();
+            } else {
+                self.processors.pause(rt, record.history(), policy, spin);
+            }
         }
         unreachable!()
     }

@@ -28,6 +28,12 @@ const TIGHT: u32 = 20;
 /// The pauses after each later spin with the lock. They take about as long as a short yield.
 const PAUSES: u32 = 8;
 
+/// How many spins take as long as a piece of work, with a pause after each.
+const TIGHT_SPINS_OF_WORK: u32 = 128;
+
+/// The same with a yield after each.
+const SPINS_OF_WORK: u32 = 12;
+
 /// How a thread waits, before it sleeps.
 #[derive(Clone, Copy, Debug)]
 pub struct SpinPolicy {
@@ -111,6 +117,18 @@ impl SpinPolicy {
     /// Whether all spins have been made.
     pub fn is_over(self) -> bool {
         self.made >= self.spins || self.yields_left == 0
+    }
+
+    /// The thread has worked for some ten microseconds, in place of the pauses of as many spins. No spin is passed over at which it tries for the
+    /// lock or reads the clock.
+    pub fn worked(&mut self) {
+        let spins = if self.made < self.tight_spins {
+            TIGHT_SPINS_OF_WORK
+        } else {
+            SPINS_OF_WORK
+        };
+        let next = self.made | (self.try_mask & READINGS);
+        self.made = self.made.saturating_add(spins).min(next);
     }
 
     /// Spins in a row with the lock, before the thread gives the lock up.

@@ -28,6 +28,7 @@ use crate::recent::Recent;
 use crate::tally::{Entries, Tally};
 use crate::trace::Trace;
 use crate::waits::Waits;
+use coll_bytes::Home;
 use coll_core::laws::{between_calls, done_once_heard, lock_is_free};
 use coll_core::{About, Config, Core};
 use coll_kinds::{Refusal, Ticket};
@@ -105,6 +106,11 @@ impl<L: Entries> TracedCore<L> {
     /// Returns where the engine's memory comes from.
     pub(crate) fn alloc(&self) -> Global {
         self.alloc
+    }
+
+    /// Returns where the memory of long rows comes from. None if that has too many owners.
+    pub fn home(&self) -> Option<Home> {
+        self.core.home()
     }
 
     /// Shows that the setting is that of the ledger's type and the trace is legal, for callers'

@@ -45,8 +45,8 @@ fn furnish(
     ensures refusal { IsOkUnless result Refusal.NoMemory }
 {
     let size = segmented.long.segments.size() as usize;
-    segmented.own = blocks.take(alloc, size)?;
-    segmented.spare = blocks.take(alloc, size)?;
+    segmented.own = blocks.reserve(alloc, size)?;
+    segmented.spare = blocks.reserve(alloc, size)?;
     Ok(segmented)
 }
 
