@@ -13,9 +13,11 @@ use std::sync::Wait;
 use std::time::Instant;
 
 /// What a rank gives in a turn: other bytes than the other ranks and than in the turn before, as programs do.
-fn given(alloc: Global, rank: u8, turn: u32, len: usize) -> Result<Contribution, Refusal> {
-    let byte = rank.wrapping_add((turn % 256) as u8);
-    Ok(Contribution::new(vec![in alloc; byte; len]?))
+fn given<L: Entries>(port: &Port<L>, turn: u32, len: usize) -> Result<Contribution, Refusal> {
+    let byte = port.rank().wrapping_add((turn % 256) as u8);
+    let mut row = port.alloc_row(len)?;
+    row.resize(len, byte)?;
+    Ok(Contribution::new(row))
 }
 
 /// Plans a measure's collective and posts it on communicator 0.
@@ -27,7 +29,7 @@ fn post<L: Entries, R: Wait + Clock>(
     turn: u32,
 ) -> Result<Request, Refusal> {
     let plan = port.ready_plan(0, &measure.signature())?;
-    let bytes = given(alloc, port.rank(), turn, plan.given_len())?;
+    let bytes = given(port, turn, plan.given_len())?;
     let offer = Offer { plan, bytes };
     match port.post(rt, 0, offer) {
         Ok((request, _receipt)) => Ok(request),
@@ -117,7 +119,7 @@ fn again_and_again<L: Entries, R: Wait + Clock>(
     turns: u32,
 ) -> Result<(), Refusal> {
     for turn in 0..turns {
-        let bytes = given(alloc, port.rank(), turn, len)?;
+        let bytes = given(port, turn, len)?;
         start(rt, port, request, bytes)?;
         wait(rt, port, request)?;
     }

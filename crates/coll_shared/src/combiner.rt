@@ -2,7 +2,7 @@
 
 mod held;
 
-ghost use Rattle.std.specs.Prelude.{◌≡◌, ◌<◌, ℕ, IfErr, IsSome, vec_len};
+ghost use Rattle.std.specs.Prelude.{◌≡◌, ◌<◌, ◌≤◌, ℕ, [], IfErr, IfOk, IsOkUnless, IsSome, vec_capacity, vec_len};
 ghost use Rattle.std.specs.Sync.Mutex.{mutex_guard_value};
 ghost use Rattle.coll_traced.specs.Ranks.{IsIn};
 ghost use Rattle.crossbeam_utils.specs.Padded.{padded_value};
@@ -134,6 +134,23 @@ impl<L: Entries> Combiner<L> {
     /// Tells whether a thread waits for the lock.
     pub(crate) fn is_wanted(&self) -> bool {
         self.wanted.load(Ordering::SeqCst) != 0
+    }
+
+    /// Returns an empty vector for the bytes of a contribution.
+    ///
+    /// # Errors
+    ///
+    /// NoMemory.
+    pub(crate) fn alloc_row(&self, alloc: Global, len: usize) -> Result<Vec<u8>, Refusal>
+        ensures empty { IfOk result (λ row. row.items ≡ []) }
+        ensures none { IfOk result (λ row. vec_len row ≡ 0) }
+        ensures room { IfOk result (λ row. len ≤ vec_capacity row) }
+        ensures refusal { IsOkUnless result Refusal.NoMemory }
+    {
+        match &self.home {
+            Some(home) => Ok(home.take(alloc, len)?),
+            None => Ok(Vec::with_capacity(alloc, len)?),
+        }
     }
 
     /// Counts the ports whose published call nobody has served yet.

@@ -4,7 +4,7 @@ mod completing;
 mod posting;
 mod starting;
 
-ghost use Rattle.std.specs.Prelude.{◌≡◌, ◌<◌, Some, length, IfNone, IfOk, IfSome, IsErrOf, IsOkUnless, MatchOption};
+ghost use Rattle.std.specs.Prelude.{◌≡◌, ◌<◌, ◌≤◌, [], Some, length, vec_capacity, vec_len, IfNone, IfOk, IfSome, IsErrOf, IsOkUnless, MatchOption};
 ghost use Rattle.coll_kinds.specs.Checks.{broken};
 ghost use Rattle.coll_kinds.specs.Groups.{member_of};
 ghost use Rattle.coll_machine.specs.Refusals.{unseated};
@@ -103,6 +103,21 @@ impl<L: Entries> Port<L> {
     {
         let seat = self.communicators.seat(comm, self.rank)?;
         self.plans.plan_of(sig, seat.size, seat.member)
+    }
+
+    /// Returns an empty vector for the bytes that the rank gives next (as `MPI_Alloc_mem`; MPI 4.1,
+    /// 9.2). Most pages of a long one exist already, because ranks that wait make them.
+    ///
+    /// # Errors
+    ///
+    /// NoMemory.
+    pub fn alloc_row(&self, len: usize) -> Result<Vec<u8>, Refusal>
+        ensures empty { IfOk result (λ row. row.items ≡ []) }
+        ensures none { IfOk result (λ row. vec_len row ≡ 0) }
+        ensures room { IfOk result (λ row. len ≤ vec_capacity row) }
+        ensures refusal { IsOkUnless result Refusal.NoMemory }
+    {
+        self.combiner.alloc_row(self.alloc, len)
     }
 
     /// Ends the port. No call waits for its rank any longer: in the search for deadlocks the rank
