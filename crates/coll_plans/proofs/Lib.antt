@@ -31,7 +31,7 @@ pub mod RecursiveDoublingAllreduce
 pub mod RecursiveDoublingRounds
 pub mod RecursiveDoublingRanges
 pub mod RecursiveDoublingJoins
-pub mod JoinedRows
+pub mod RecursiveDoublingBlocks
 pub mod RecursiveDoublingHypercube
 pub mod JoinRows
 -- the chain: long bcasts

@@ -17,8 +17,8 @@ pub struct Neighbours {
     pub count: u8,
 }
 
-/// The members whose rows the combination of member `r` in that round joins: members who get the same answer combine the same
-/// rows. None only for a collective that is no allreduce, and for a round in which the member combines nothing. It takes
+/// The members whose rows member `r`'s combination in that round joins: members who get the same answer combine the same rows.
+/// The answer is None only for a collective that is no allreduce, and for a round in which the member combines nothing. It takes
 /// constant time.
 pub(crate) fn joined_rows(sig: &Signature, n: u8, r: u8, round: usize) -> Option<Neighbours>
     requires checked { broken sig.now n ≡ None }

@@ -18,8 +18,7 @@ pub fn heard_is_heard()
     ensures { HeardIsHeard }
 {}
 
-/// `JoinsRows` isn't true of just any members: of five members' sums the one of member 2 in round 3 isn't that of the rows
-/// of members 0 and 1.
+/// `JoinsRows` isn't true of just any members: in round 3 member 2 of five doesn't join the rows of members 0 and 1 alone.
 pub fn others_are_not_joined()
     ensures { OthersAreNotJoined }
 {}

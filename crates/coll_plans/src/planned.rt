@@ -167,8 +167,8 @@ impl Plan {
         self.shared.schedule()
     }
 
-    /// The members whose rows the member's combination in that round joins: members who get the same answer combine the same
-    /// rows. None only for a collective that is no allreduce, and for a round in which the member combines nothing. It takes
+    /// The members whose rows the member's combination in that round joins: members who get the same answer combine the same rows.
+    /// The answer is None only for a collective that is no allreduce, and for a round in which the member combines nothing. It takes
     /// constant time.
     pub fn joined_by(&self, round: usize) -> Option<Neighbours>
         ensures joins { IfSome result (λ joined. JoinsRows self.now.sig self.now.n self.now.member round joined.first joined.count) }

@@ -2,7 +2,7 @@
 use Rattle.std.proofs.Common.{◌≡◌, suc, ◌+◌, ◌/◌, ◌∙◌, arith, rules}
 use Rattle.coll_kinds.specs.declared.kind.Kind.TheVariants.{Allreduce}
 use Rattle.coll_plans.specs.RecursiveDoublingHypercube.{dimension}
-use Rattle.coll_plans.proofs.JoinedRows.{is_block, span_joins}
+use Rattle.coll_plans.proofs.RecursiveDoublingBlocks.{is_block, span_joins}
 use Rattle.coll_plans.proofs.RecursiveDoublingAllreduce.{combines_nothing}
 use Rattle.coll_plans.proofs.joined_rows.joined_rows.Goals.{then-ne-via-then-ne, then-ne-via-else-ne+then-round-eq0}
 use Rattle.coll_plans.proofs.joined_rows.joined_rows.Goals as goal
