@@ -187,7 +187,7 @@ impl Request {
         ensures work { work.new ≡ work.old }
         ensures matches { matches.new ≡ matches.old }
     {
-        let Some(joined) = self.plan.joined_by(self.round) else {
+        let Some(joined) = self.plan.combined_by(self.round) else {
             return;
         };
         let of = Combination {

@@ -170,7 +170,7 @@ impl Plan {
     /// The members whose rows the member's combination in that round joins: members who get the same answer combine the same rows.
     /// The answer is None only for a collective that is no allreduce, and for a round in which the member combines nothing. It takes
     /// constant time.
-    pub fn joined_by(&self, round: usize) -> Option<Neighbours>
+    pub fn combined_by(&self, round: usize) -> Option<Neighbours>
         ensures joins { IfSome result (λ joined. JoinsRows self.now.sig self.now.n self.now.member round joined.first joined.count) }
         ensures few { IfSome result (λ joined. joined.first + joined.count ≤ 64) }
         ensures none { self.now.sig.kind ≡ Allreduce → IfNone result (CombinesNothing self.now.sig self.now.n self.now.member round) }

@@ -4,7 +4,7 @@ use Rattle.coll_kinds.specs.declared.kind.Kind.TheVariants.{Allreduce}
 use Rattle.coll_plans.specs.declared.joined_rows.Neighbours.{Neighbours}
 use Rattle.coll_plans.specs.Joins.{CombinesNothing, JoinsRows}
 use Rattle.coll_plans.specs.Plans.{Planned}
-use Rattle.coll_plans.proofs.planned.Plan.joined_by.Goals as goal
+use Rattle.coll_plans.proofs.planned.Plan.combined_by.Goals as goal
 
 pub returns-clause-joins : goal.returns-clause-joins
 returns-clause-joins c =
