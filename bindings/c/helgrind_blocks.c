@@ -8,7 +8,7 @@
 #include "worzsunab.h"
 
 /* The shelf's two blocks. If their sizes change, Helgrind reports races in coll_bytes::shelf. */
-enum { SHELF = 64, SHELF_ROWS = 1536 };
+enum { SHELF = 216, SHELF_ROWS = 1536 };
 
 /* What the kit's functions over malloc answer. */
 struct tried {
