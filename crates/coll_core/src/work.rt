@@ -43,11 +43,28 @@ impl Model for Work {
 
     ghost Value = { Piece };
 
-    ghost view = { λ w. record { ticket = w.ticket; round = w.round; index = w.index; op = w.op; ty = w.ty; left = w.operands.value.left; right = w.operands.value.right } };
+    ghost view = { λ w. record {
+      ticket = w.ticket;
+      round = w.round;
+      index = w.index;
+      op = w.op;
+      ty = w.ty;
+      left = w.operands.value.left;
+      right = w.operands.value.right;
+    } };
 
     ghost invariant = { λ w. let piece : Piece =
-        record { ticket = w.ticket; round = w.round; index = w.index; op = w.op; ty = w.ty; left = w.operands.value.left; right = w.operands.value.right } in
-        IsPiece piece × IfSome w.operands.value.cell (λ cell. cell ≡ result_of piece) × IfSome w.operands.value.shared (λ shared. shared.cell ≡ result_of piece) };
+        record {
+          ticket = w.ticket;
+          round = w.round;
+          index = w.index;
+          op = w.op;
+          ty = w.ty;
+          left = w.operands.value.left;
+          right = w.operands.value.right;
+        } in
+        IsPiece piece × IfSome w.operands.value.cell (λ cell. cell ≡ result_of piece)
+        × IfSome w.operands.value.shared (λ shared. shared.cell ≡ result_of piece) };
 }
 
 /// Says what the result of a work is, for the cell's rule.
