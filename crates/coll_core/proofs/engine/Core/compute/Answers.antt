@@ -17,7 +17,7 @@ act-requires-clause-fits c =
 pub act-requires-clause-small : goal.act-requires-clause-small
 act-requires-clause-small c =
     let at = acts_at _ c.args.self.now c.args.ticket c.in-Ok.request.now c.args.action c.self.view_is c.requires.acting c.in-Ok.ensures.found in
-    subst (λ n. n < 2 ^ 32) (sym at.filled) c.unit-unit.ensures
+    subst (λ n. n < 2 ^ 32) (sym at.filled) c.is_addressable.ensures
 
 pub invariant_of-self : goal.invariant_of-self
 invariant_of-self c =

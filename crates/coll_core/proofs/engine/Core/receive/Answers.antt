@@ -12,7 +12,7 @@ pub receive-requires-clause-fits : goal.receive-requires-clause-fits
 receive-requires-clause-fits c =
     let x = c.in-Ok.request.now in
     let at = acts_at _ c.args.self.now c.args.ticket x (Recv c.args.of c.args.into) c.self.view_is c.requires c.in-Ok.ensures.found in
-    omega (arith, at.fits, c.unit-unit.ensures)
+    omega (arith, at.fits, c.is_addressable.ensures)
 
 pub receive-requires-clause-same : goal.receive-requires-clause-same
 receive-requires-clause-same c =
