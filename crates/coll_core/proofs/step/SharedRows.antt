@@ -14,7 +14,7 @@ use Rattle.coll_machine.specs.Common.{size}
 use Rattle.coll_match.specs.Instances.{given}
 use Rattle.coll_refinement.specs.Requests.{Live, before, key}
 use Rattle.coll_refinement.specs.Shown.{listed}
-use Rattle.coll_refinement.specs.Tables.{Tables, world}
+use Rattle.coll_refinement.specs.Tables.{world}
 use Rattle.coll_refinement.proofs.tables.OneRequest.{serves_own, tracks_at}
 use Rattle.coll_core.specs.declared.request.Request.{Request}
 use Rattle.coll_core.specs.Cores.{IsCore, Parts, setting, tables}

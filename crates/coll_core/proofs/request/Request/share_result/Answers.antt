@@ -1,4 +1,4 @@
-use Rattle.std.proofs.Common.{◌≡◌, ◌∙◌, ℕ, arith, replicate, sym}
+use Rattle.std.proofs.Common.{◌∙◌, replicate, sym}
 use Rattle.coll_plans.specs.Plans.{family}
 use Rattle.coll_match.specs.Held.{combined_rows}
 use Rattle.coll_match.specs.Instances.{given}
