@@ -5,8 +5,9 @@
     bench/mpi.py [RUNS] [--busy] [--large-pages] [--long]    (5 runs by default)
 
 Long rows are compared in two ways, each of the same work. Kept: each collective has fresh buffers, a giver writes its row, and nothing is
-freed; so `coll_bench` does it, whose trace keeps each post and outcome. Used again: all collectives have the same buffers; so wzrun does
-it, which keeps no trace and runs the MPI program itself.
+freed; so `coll_bench` does it, whose trace keeps each post and outcome, and whose ranks take the memory of their rows from
+`Port::alloc_row`. Used again: all collectives have the same buffers; so wzrun does it, which keeps no trace and runs the MPI program
+itself.
 
 With --busy it does so beside as many busy processes as there are processors. With --large-pages all programs, ours and theirs, take memory
 by the same settings of glibc's allocator: from one heap that keeps what it has, in steps of 256 MiB, on large pages. With --long only long
