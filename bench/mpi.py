@@ -46,7 +46,7 @@ KEPT, AGAIN = ([f"{row}, {way}" for row in ROWS] for way in ("kept", "used again
 LARGE_PAGES = ":".join(
     f"glibc.malloc.{word}" for word in ("mmap_threshold=1073741824", "trim_threshold=4294967295", "top_pad=268435456", "hugetlb=1")
 )
-# The seconds for one of our measures, and for all of a library's; a library that wasn't through with so many ranks isn't tried again.
+# The seconds for one of our measures, and for all of a library's; a library that wasn't through with a number of ranks isn't tried again with it.
 OUR_SECONDS, THEIR_SECONDS = 10, 60
 
 

@@ -1,4 +1,4 @@
-/* Overlap by the definition of the Intel MPI Benchmarks (IMB-NBC): a rank posts, computes so many per cent of the time that the
+/* Overlap by the definition of the Intel MPI Benchmarks (IMB-NBC): a rank posts, computes a percentage of the time that the
  * collective takes alone, and waits. It prints the collective and the per cent, and then nanoseconds, medians of the slowest rank:
  * `pure`, the collective alone; `alone`, the computation alone; then of both together `post`, `computing`, `wait` and `total`. A rank
  * writes its row before it posts, as a program computes what it gives; that isn't timed. */

@@ -56,7 +56,7 @@ NAMES = {8: "8 bytes", 65536: "64 KiB", 524288: "512 KiB"}
 
 
 class Program:
-    """One of the programs, with so many progress threads, whose ranks test each so many microseconds."""
+    """One of the programs, with that many progress threads, whose ranks test once in that many microseconds."""
 
     def __init__(self, name, ranks, threads=0, tests=0):
         self.name, self.ranks, self.threads, self.tests = name, ranks, threads, tests

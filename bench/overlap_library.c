@@ -1,4 +1,4 @@
-/* Overlap of the C library, whose ranks are threads: RANKS THREADS clock|work TESTS [COLLECTIVE BYTES PERCENT].., with so many progress
+/* Overlap of the C library, whose ranks are threads: RANKS THREADS clock|work TESTS [COLLECTIVE BYTES PERCENT].., with THREADS progress
  * threads; see overlap.c. */
 #include <stdio.h>
 #include <stdlib.h>

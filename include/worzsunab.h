@@ -181,7 +181,7 @@ typedef struct wz_limits {
     uint32_t starts; /* the most starts of one request: 1 to 1,048,576 */
 } wz_limits;
 
-/* The greatest limits, for so many ranks. */
+/* The greatest limits, for that many ranks. */
 wz_limits wz_greatest_limits(uint32_t ranks);
 
 /* ---- what functions answer */

@@ -20,7 +20,7 @@ extern "C" {
 /* The bytes of an element, by the table of types in worzsunab.h; 0 for a number that names no type. */
 size_t wz_type_bytes(uint8_t type);
 
-/* How many blocks a member of so many gives to a collective and gets, by the table of kinds in worzsunab.h. 0 of an
+/* How many blocks a member of a group gives to a collective and gets, by the table of kinds in worzsunab.h. 0 of an
    allgatherv, of which counts say it, and for a number that names no kind. */
 size_t wz_blocks_given(uint8_t kind, uint32_t member, uint32_t root, size_t members);
 size_t wz_blocks_got(uint8_t kind, uint32_t member, uint32_t root, size_t members);

@@ -36,7 +36,7 @@ int32_t wz_shared_open_world(wz_shared *shared, uint8_t ranks);
 /* Closes it once no thread uses it any longer; as wz_close. */
 int32_t wz_shared_close(wz_shared *shared);
 
-/* From now on so many progress threads, 0 to 8, make progress beside the ranks, also while all ranks compute between
+/* From now on that many progress threads, 0 to 8, make progress beside the ranks, also while all ranks compute between
    their calls: they make actions and compute combinations as a rank that waits does, and sleep once nothing has been
    left to do for a while. They count as no rank, so a stall is found as without them. The first call starts threads, a
    later one starts or ends some; wz_shared_close ends them. They take none of the process's signals.

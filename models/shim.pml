@@ -7,7 +7,7 @@
  * are free choices.
  *
  * Sizes:   RANKS, COLLECTIVES, COMBINATIONS (combinations of a collective), HELPERS (progress threads: 0 or 1),
- *          PROCESSORS (where rows are wide so many that wait compute at the same time; 0: rows aren't wide)
+ *          PROCESSORS (where rows are wide: how many that wait compute at the same time; 0: rows aren't wide)
  * Forms:   LONG (combinations are computed with the lock free), CHAINED (a combination is ready once the one before it is there),
  *          FAIR (for liveness), COARSE (what one hold of the lock does to the records is one step for all of them, and so are the wake-ups
  *          that follow it)

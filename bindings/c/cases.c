@@ -16,7 +16,7 @@ static wz_engine opened(uint8_t ranks, uint32_t slots, uint32_t wear) {
     return engine;
 }
 
-/* Each rank gives its part of `given`, blocks of so many bytes, and gets the bytes of `want` at its place, as many as `gets` says. */
+/* Each rank gives its part of `given`, blocks of that many bytes, and gets the bytes of `want` at its place, as many as `gets` says. */
 static void value(wz_call call, uint8_t ranks, const void *given, const size_t *gives, const void *want, const size_t *gets) {
     wz_engine engine = opened(ranks, 64, 9);
     wz_request requests[8];

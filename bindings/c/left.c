@@ -16,7 +16,7 @@ static struct record *record_of_one(void) { return &shared.at->records[1]; }
 
 static int stage_of_one(void) { return load(&record_of_one()->stage); }
 
-/* A sum of so many elements. */
+/* A sum of that many elements. */
 static void gives(uint8_t rank, uint32_t count) {
     for (int at = 0; at < LONG; at++) rows[rank][at] = rank + at;
     DONE(wz_iallreduce(&shared, rank, 0, rows[rank], rows[rank], count, WZ_INT32, WZ_SUM, &requests[rank]));

@@ -4,7 +4,7 @@
 KINDS = {"Barrier": "barrier", "Bcast": "bcast", "Gather": "gather", "Scatter": "scatter", "Allgather": "allgather", "Alltoall": "alltoall",
          "Reduce": "reduce", "Allreduce": "allreduce", "Reduce_scatter_block": "rsblock", "Scan": "scan", "Exscan": "exscan",
          "Allgatherv": "allgatherv"}
-# What a member gives, in blocks: none, its own, all members' blocks, or so many elements as its count says; `root`: the root alone.
+# What a member gives, in blocks: none, its own, all members' blocks, or as many elements as its count says; `root`: the root alone.
 GIVEN = {"barrier": "none", "bcast": "root", "gather": "own", "scatter": "root all", "allgather": "own", "alltoall": "all", "reduce": "own",
          "allreduce": "own", "rsblock": "all", "scan": "own", "exscan": "own", "allgatherv": "counted"}
 # Whom a member's value needs: all, the root, `root all`: the root needs all and others nobody else, or lower members, with it or without.

@@ -11,7 +11,7 @@ from stalls import ALL, MESSAGES, Lane, Stalls
 # How many notes of messages a text has.
 MOST_NOTED = 6
 
-# Of a long record the run with messages takes so many commands; what a rank would do after them is taken as done.
+# Of a long record the run with messages takes this many commands; what a rank would do after them is taken as done.
 MOST_STEPS = 400_000
 
 STALLS = "warning: a library whose sends wait for their receives, as for longer rows, and whose collectives for all their members, stalls:"

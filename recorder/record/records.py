@@ -113,7 +113,7 @@ class Record:
                 kind = known.get(line)
                 self.take_message(kind or self.message_kind(line, place, thread, known), place, offset)
             elif line.startswith(b"wait "):
-                # Most wait for a request that was made so many ago.
+                # Most wait for a request that was made that many calls ago.
                 number = int(line[5:])
                 code = known.get(len(made) - number) if not remarks and number not in persistent else None
                 if code is None:

@@ -12,7 +12,7 @@ WINDOW, AT_ONCE = 1 << 20, 1 << 14
 
 
 class Step:
-    """What was read last: TEXT has its lines, which make so many COMMANDS."""
+    """What was read last: TEXT has its lines, which make that many COMMANDS."""
 
     def __init__(self, text, commands):
         self.text, self.commands, self.lines = text, commands, text.count(b"\n")
@@ -59,7 +59,7 @@ def times_repeated(file, offset, text):
 
 
 def add_steps(record, step, times):
-    """Adds to a record what so many more of its last step add."""
+    """Adds to a record what that many more of its last step add."""
     while times:
         part = min(times, AT_ONCE)
         add_at_once(record, step, part)

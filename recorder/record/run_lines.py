@@ -2,7 +2,7 @@
 
 import re
 
-# So many calls of a stretch of lines are named; of more the first and the last.
+# A stretch of lines names this many calls; of more it names the first and the last.
 MOST_NAMED = 4
 
 CARRIED = re.compile(r" +rank (\d+) carries out (?:line (\d+)|lines (\d+) to (\d+)|its lines from (\d+) on)\b(?:.* completes (.*))?")

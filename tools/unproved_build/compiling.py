@@ -32,7 +32,7 @@ def text_of(kit, scratch, module, progress):
 
 
 def objects_of(kit, scratch, module, code, parts, progress):
-    """Compiles a module in so many parts, to position-independent code of a kind (`-fPIE` or `-fPIC`). A function of another part isn't
+    """Compiles a module in that many parts, to position-independent code of a kind (`-fPIE` or `-fPIC`). A function of another part isn't
     inlined. The paths of the objects."""
     objects, calls = [], []
     for number, text in enumerate(module.parts(parts)):

@@ -82,7 +82,7 @@ class Module:
             self.functions[name].show()
 
     def parts(self, count):
-        """The texts of so many modules that are this one when they are linked."""
+        """The texts of that many modules that are this one when they are linked."""
         large = [it for it in self.functions.values() if not it.is_small()]
         share = sum(it.lines for it in large) / count
         groups, filled = [[] for _ in range(count)], 0

@@ -30,7 +30,7 @@ def file_lines(table):
     lines = ['"""Kinds, operations and types in job texts; `tools/words` makes this file."""', "",
              "# By MPI's call, without MPI_ and the I of nonblocking ones."]
     lines += dict_lines("KINDS", [(row.mpi, f'"{row.word}"') for row in kinds])
-    lines += ["# What a member gives, in blocks: none, its own, all members' blocks, or so many elements as its count says; `root`: the root alone."]
+    lines += ["# What a member gives, in blocks: none, its own, all members' blocks, or as many elements as its count says; `root`: the root alone."]
     lines += dict_lines("GIVEN", [(row.word, f'"{row.gives}"') for row in kinds])
     lines += ["# Whom a member's value needs: all, the root, `root all`: the root needs all and others nobody else, or lower members, with it or without."]
     lines += dict_lines("NEEDS", [(row.mpi, f'"{row.needs}"') for row in kinds])

@@ -63,7 +63,7 @@ def aligned(rows):
 
 
 def filled(head, cells, tail, width=118):
-    """`head`, the cells with commas between them, and `tail`, in lines of at most so many columns."""
+    """`head`, the cells with commas between them, and `tail`, in lines of at most that many columns."""
     lines, line = [], head
     for place, cell in enumerate(cells):
         cell += tail if place + 1 == len(cells) else ","

@@ -11,7 +11,7 @@ __attribute__((weak)) int optind = 1, opterr = 1, optopt = '?';
 
 static struct {
     char *rest;   /* of a word with several letters; NULL: the next word is due */
-    int skipped;  /* words that aren't options lie at optind, so many */
+    int skipped;  /* how many words that aren't options lie at optind */
     int expected; /* optind as it was left; where it is another the program begins anew */
 } place;
 

@@ -13,7 +13,7 @@ enum {
     MOST_TESTED = 16,
     LOOKS_OF_TESTING = 80, /* of 25 ms: so long a rank has only tested before it is asked to stand still */
     MOST_IDLE = 20,        /* looks without a test: then it computes */
-    LEAST_TESTS = 200,     /* and so many tests it has made */
+    LEAST_TESTS = 200,     /* and the fewest tests of its own by then */
     LONGEST_STAND = 1000   /* milliseconds */
 };
 

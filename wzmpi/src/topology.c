@@ -234,7 +234,7 @@ int MPI_Cart_sub(MPI_Comm handle, const int stays[], MPI_Comm *made) {
     return code;
 }
 
-/* Whether LEFT is a product of so many sizes of at most MOST. */
+/* Whether LEFT is a product of that many sizes of at most MOST. */
 static bool fits(int left, int order, int most) {
     if (order <= 1) return left <= (order == 1 ? most : 1);
     for (int size = most < left ? most : left; size >= 1; size--) {

@@ -159,7 +159,7 @@ int MPI_Type_create_struct(int many, const int lengths[], const MPI_Aint places[
     return give(made, handle, MPI_COMBINER_STRUCT, many, of);
 }
 
-/* A dimension of a subarray: so many of the type that the inner dimensions make, of so many in all. */
+/* A dimension of a subarray: how many it takes of the type that the inner dimensions make, and of how many. */
 static void narrow(struct building *b, const struct type *inner, int size, int part, int start) {
     build(b, inner, start * inner->extent, part);
     b->low = 0;

@@ -265,7 +265,7 @@ static void carry(struct judging *judging) {
     request->call = (wz_call){ across ? WZ_ALLTOALL : kinds[judging->function], WZ_NO_OPERATION, WZ_2INT, request->call.root, 1 };
 }
 
-/* So many elements in each block, and so many blocks at the member that has the most. */
+/* The elements of each block, and the blocks of the member that has the most. */
 static void move_directly(struct judging *judging, uint8_t kind, const struct type *type, long long many, int blocks) {
     struct request *request = judging->request;
     int engine = type->basic > 0 ? basic_type(type->basic)->engine : -1;

@@ -9,7 +9,7 @@ from checking import HERE, compiled, reported, run
 
 TIMES = 20
 AT_ONCE = 5  # runs; a loop of tests in vain is judged after two seconds
-# So many microseconds rank 2 comes later than the others, in one try after the other: by the last one of them the others are there on the busiest machine.
+# The microseconds that rank 2 comes later than the others, in one try after the other: by the last one of them the others are there on the busiest machine.
 LATER = [30000 * 2**turn for turn in range(10)]
 # Of each case: the ranks, lines of the run that is shown, and where the ranks wait once it is replayed.
 CASES = {

@@ -4,7 +4,7 @@
 #include <string.h>
 #include <unistd.h>
 
-static int rank, mine, got[4], which, later = 30000; /* so many microseconds rank 2 comes later */
+static int rank, mine, got[4], which, later = 30000; /* the microseconds that rank 2 comes later */
 static MPI_Comm pairs[3]; /* pairs[I]: of ranks 0 and I */
 
 static void make_pairs(void) {

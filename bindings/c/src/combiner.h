@@ -49,7 +49,7 @@ enum {
     STEPS = 256
 };
 
-/* How often a thread looks at its record before it sleeps; and how often where so many looks were mostly in vain, but
+/* How often a thread looks at its record before it sleeps; and how often where that many looks were mostly in vain, but
    for every TRIES-th wait, which finds out whether they help again. */
 #ifndef WZ_LOOKS
 #define WZ_LOOKS 2000
@@ -59,12 +59,12 @@ enum {
 #endif
 enum { TRIES = 16, IN_VAIN = 3 };
 
-/* Once a rank gives so many bytes, combinations are computed with the lock free, and its rows are copied so too. */
+/* Once a rank gives this many bytes, combinations are computed with the lock free, and its rows are copied so too. */
 #ifndef WZ_LONG
 #define WZ_LONG 4096
 #endif
 
-/* Once a rank gives so many bytes, as many ranks that wait compute combinations at the same time as there are
+/* Once a rank gives this many bytes, as many ranks that wait compute combinations at the same time as there are
    processors, if there are more than two ranks: a shorter one takes no longer than a call to another rank. */
 #ifndef WZ_WIDE
 #define WZ_WIDE 32768
@@ -124,7 +124,7 @@ struct operation {
     wz_part *parts;
     const wz_request *const *list;
     const wz_request *requests;
-    size_t passed; /* of a wait for all: so many parts at the front aren't pending any longer */
+    size_t passed; /* of a wait for all: this many parts at the front aren't pending any longer */
     void *out;
     size_t room;
     size_t *count;  /* or the index, or how many there were */
@@ -226,7 +226,7 @@ uint32_t count_records(struct wz_combiner *combiner);
 bool is_helper(const struct wz_combiner *combiner, const struct record *record);
 /* How many processors there are for the process's threads; 1 where that isn't known. */
 uint32_t count_processors(void);
-/* So many ranks and progress threads of the process are there from now on, or fewer where it is below 0. */
+/* That many more ranks and progress threads of the process are there from now on, or fewer where it is below 0. */
 void count_threads(int more);
 /* Room for progress threads, none of which is started; NULL where there is no memory. */
 struct helper *allocate_helpers(void);
@@ -245,7 +245,7 @@ void judge(struct wz_combiner *combiner);
 /* ---- record.c: how a thread waits for its record */
 
 int64_t nanoseconds(void);
-/* Lets time pass after so many looks in a row and one more: a moment, or as long as others take the processor. */
+/* Lets time pass after that many looks in a row and one more: a moment, or as long as others take the processor. */
 void let_time_pass(struct record *me, int looks);
 /* Yields the processor, and notes a long yield. */
 void yield_processor(struct record *me);

@@ -73,7 +73,7 @@ impl Engine {
         Ok(Engine { shared: UnsafeCell::new(shared), sizes, given })
     }
 
-    /// From now on so many progress threads, 0 to 8, make progress beside the ranks, also while all ranks compute between their
+    /// From now on that many progress threads, 0 to 8, make progress beside the ranks, also while all ranks compute between their
     /// calls. They count as no rank, so a wait that nobody can end is told as without them. They end with the engine.
     ///
     /// # Errors
