@@ -15,7 +15,7 @@ MADE, LAST = "# made of records, whole where its last line says so", "# the end 
 
 CUT = "incomplete: the text was cut"
 
-# How the note of a text begins whose lines may let ranks wait for one another: it isn't known.
+# How a text's note begins if it isn't known whether its lines let ranks wait for one another.
 NOT_JUDGED = "incomplete: stalls aren't judged: "
 
 # The notes at the head of such a text.

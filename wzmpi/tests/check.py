@@ -43,7 +43,7 @@ EXPLAINED = ["root", "blocking", "lacking", "crossed", "missing_start", "missing
 MODULES = [check_calling, check_processes, check_sanitizers, check_schedules, check_standing, check_threads]
 # The programs without a mistake.
 RIGHT = [HERE / "right.c", HERE / "right_edges.c"]
-# The examples some of whose runs deadlock: one of that many ends well, however busy the machine is.
+# The examples some of whose runs deadlock: one of that many runs ends well, however busy the machine is.
 TRIES = {"server": 60}
 # How many ranks each right program is run with, where these aren't 1, 2 and 5.
 RIGHT_RANKS = {"many_places": [2], "threads": [2], "grid": [4, 6], "intercommunicators": [2, 3, 5], "neighbors": [1, 2, 4]}

@@ -49,7 +49,7 @@ enum {
     STEPS = 256
 };
 
-/* How often a thread looks at its record before it sleeps; and how often where that many looks were mostly in vain, but
+/* How often a thread looks at its record before it sleeps; and how often where that many looks mostly found nothing, but
    for every TRIES-th wait, which finds out whether they help again. */
 #ifndef WZ_LOOKS
 #define WZ_LOOKS 2000
